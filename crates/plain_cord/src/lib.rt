@@ -1,0 +1,9 @@
+//! Plain data and definitions: what a script is, what a session answers, and what its commands mean on byte strings.
+//! Nothing here runs; every layer above is proved against it.
+#![tactic(auto)]
+
+mod items;
+mod script;
+
+pub use items::Items;
+pub use script::{Command, Script, Session, Text};
