@@ -3,7 +3,11 @@
 #![tactic(auto)]
 
 mod items;
+mod limits;
+mod reply;
 mod script;
 
 pub use items::Items;
+pub use limits::{MOST_BYTES, MOST_SHOWN};
+pub use reply::{Book, NewMark, Reply};
 pub use script::{Command, Script, Session, Text};
