@@ -1,17 +1,16 @@
--- The bytes of a text, and the questions on byte strings.
-use Rattle.std.specs.Prelude.{ℕ, ◌-◌, Bool, ◌&&◌, List, [], ◌∷◌, length, drop, replicate, nat_eq, nat_le, suc, Option, Some, None, if◌then◌else◌}
+-- The bytes of a text, and where a needle stands first.
+use Rattle.std.specs.Prelude.{ℕ, List, [], ◌∷◌, replicate, nat_eq, suc, Option, Some, None, if◌then◌else◌}
 use Rattle.std.specs.Option.{option_map}
 use Rattle.std.specs.List.{concat, starts_with}
-use Rattle.std.specs.Str.{bytes_eq}
 use Rattle.plain_cord.specs.declared.script.Text.{Text}
+
+-- a piece so many times
+abbrev pub repeated : List ℕ → ℕ → List ℕ
+repeated piece times = concat (replicate times piece)
 
 -- the bytes that a text stands for
 abbrev pub text_bytes : Text → List ℕ
-text_bytes text = concat (replicate text.times text.piece)
-
--- the last bytes are these
-abbrev pub ends_with : List ℕ → List ℕ → Bool
-ends_with bytes end = nat_le (length end) (length bytes) && bytes_eq (drop (length bytes - length end) bytes) end
+text_bytes text = repeated text.piece text.times
 
 -- the least place of the needle
 abbrev pub place_of : List ℕ → List ℕ → Option ℕ

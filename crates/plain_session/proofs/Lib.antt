@@ -1,0 +1,4 @@
+pub mod Repeats
+pub mod Grows
+pub mod Environments
+pub mod Shows

@@ -1,0 +1,15 @@
+//! The plain interpreter: the commands of one session on byte strings. It is the product's reference, with which
+//! every faster body is compared.
+#![tactic(auto)]
+
+mod cord;
+mod edit;
+mod names;
+mod pieces;
+mod queries;
+mod replies;
+mod session;
+
+pub use cord::PlainCord;
+pub use edit::Edit;
+pub use names::Names;
