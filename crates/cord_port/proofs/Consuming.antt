@@ -1,6 +1,6 @@
 -- Reads, one after another.
-use Rattle.std.proofs.Common.{◌≡◌, ◌+◌, ℕ, List, [], ◌++◌, length, refl, sym, ap, ◌∙◌, append_assoc, length-append, arith, Option, Some, None}
-use Rattle.std.specs.Io.KnownBytes.{Consumes, Keeps, IsAtEnd}
+use Rattle.std.proofs.Common.{ℕ, List, [], ◌++◌, refl, sym, ap, ◌∙◌, append_assoc, length-append, arith, Option, Some, None}
+use Rattle.std.specs.Io.KnownBytes.{Consumes, Keeps}
 use Rattle.cord_port.specs.Texts.{Gave}
 
 pub consumes_none : (a : Option (List ℕ)) → Consumes a a []

@@ -1,6 +1,6 @@
 -- The bytes that pass: how many a source gave, and what a sink holds after a text or a part of it.
 use Rattle.std.specs.Prelude.{◌≡◌, ◌+◌, ℕ, List, ◌++◌, length, ⊤, Option, Some, None, Result, MatchResult}
-use Rattle.std.specs.Io.KnownBytes.{Consumes, IsAtEnd}
+use Rattle.std.specs.Io.KnownBytes.{Consumes}
 
 -- the count of given bytes rose by the answer, and at a failure stayed
 abbrev pub CountsGiven : {E : Type 0} → ℕ → ℕ → Result ℕ E → Type 0

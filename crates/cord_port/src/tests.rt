@@ -83,12 +83,13 @@ fn std_reader_and_writer_serve(rt: HostRuntime) -> Result<(), Fail> {
 fn releasers_count_and_keep_lengths(rt: HostRuntime) -> Result<(), Fail> {
     let mut log = LogReleaser::new(rt.alloc(), 2)?;
     let mut count = CountReleaser::new();
-    for length in [5u64, 6, 7] {
-        log.release(length);
-        count.release(length);
-    }
+    log.release(5);
+    log.release(6);
+    log.release(7);
+    count.release(5);
+    count.release(7);
     assert_eq!(rt; log.lengths(), [5u64, 6].as_slice());
     assert_eq!(rt; (log.calls(), log.latest()), (3, Some(7)));
-    assert_eq!(rt; (count.calls(), count.latest()), (3, Some(7)));
+    assert_eq!(rt; (count.calls(), count.latest()), (2, Some(7)));
     Ok(())
 }

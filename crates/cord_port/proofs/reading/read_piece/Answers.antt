@@ -1,4 +1,4 @@
-use Rattle.std.proofs.Common.{rules, arith, ◌≡◌, ℕ, ◌+◌, ◌≤◌, ◌++◌, [], length, ◌-◌, take, drop, min, replicate, sym, ap, ◌∙◌}
+use Rattle.std.proofs.Common.{rules, arith, ◌≡◌, ℕ, ◌+◌, ◌≤◌, ◌++◌, length, ◌-◌, take, drop, replicate, sym, ap, ◌∙◌}
 use Rattle.std.proofs.lemmas.List.{length-take-le}
 use Rattle.cord_port.proofs.Pieces.{piece, resized}
 use Rattle.cord_port.proofs.reading.read_piece.Goals as goal

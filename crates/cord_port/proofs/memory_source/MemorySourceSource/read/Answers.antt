@@ -1,4 +1,4 @@
-use Rattle.std.proofs.Common.{rules, arith, ◌≡◌, ◌+◌, ◌-◌, ◌≤◌, ◌++◌, [], take, drop, length, min, sym, ap, ◌∙◌}
+use Rattle.std.proofs.Common.{arith, ◌≡◌, ◌-◌, ◌≤◌, take, drop, length, min, ap, ◌∙◌}
 use Rattle.std.proofs.lemmas.List.{length-take-le}
 use Rattle.cord_port.proofs.Copies.{gives, at_end}
 use Rattle.cord_port.proofs.memory_source.MemorySourceSource.read.Goals as goal
