@@ -1,0 +1,5 @@
+pub mod Appending
+pub mod Consuming
+pub mod Copies
+pub mod Pieces
+pub mod Taking

@@ -1,0 +1,6 @@
+-- An interrupted read keeps the bytes that are left.
+use Rattle.std.specs.Io.KnownBytes.{Keeps}
+use Rattle.cord_port.proofs.std_source.read_uninterrupted.Given as goal
+
+abbrev pub invariant-loop : goal.invariant-loop
+invariant-loop g l = Keeps (g.R.Read.remaining l.initial.reader) (g.R.Read.remaining l.reader)

@@ -1,0 +1,5 @@
+pub mod Calls
+pub mod Causes
+pub mod Logs
+pub mod Memories
+pub mod Texts

@@ -1,0 +1,95 @@
+use super::*;
+use std::io::Cursor;
+use std::test::Fail;
+
+#[test]
+fn memory_source_gives_what_fits_and_fails_where_listed(rt: HostRuntime) -> Result<(), Fail> {
+    let bytes = vec![in rt.alloc(); 1u8, 2, 3, 4, 5]?;
+    let fails = vec![in rt.alloc(); 2u32]?;
+    let mut source = MemorySource::new(bytes, fails);
+    let mut buf = [0u8; 3];
+    let wanted = [
+        (Some(3), [1u8, 2, 3]),
+        (None, [1, 2, 3]),
+        (Some(2), [4, 5, 3]),
+        (Some(0), [4, 5, 3]),
+    ];
+    for (count, front) in wanted {
+        assert_eq!(rt; source.read(&mut buf).ok(), count);
+        assert_eq!(rt; buf, front);
+    }
+    Ok(())
+}
+
+#[test]
+fn memory_sink_takes_most_bytes_a_call_until_its_room_is_full(rt: HostRuntime) -> Result<(), Fail> {
+    let fails = vec![in rt.alloc(); 2u32]?;
+    let mut sink = MemorySink::new(rt.alloc(), 5, 3, fails)?;
+    let wanted = [(Some(3), 3), (None, 3), (Some(2), 5), (None, 5)];
+    for (count, held) in wanted {
+        assert_eq!(rt; sink.write(b"abcd").ok(), count);
+        assert_eq!(rt; sink.bytes().len(), held);
+    }
+    assert_eq!(rt; sink.write(b"").ok(), Some(0));
+    assert_eq!(rt; sink.bytes(), b"abcab".as_slice());
+    Ok(())
+}
+
+#[test]
+fn whole_text_is_read_up_to_the_limit_and_written_in_parts(rt: HostRuntime) -> Result<(), Fail> {
+    for (limit, long) in [(6, false), (5, false), (4, true)] {
+        let text = vec![in rt.alloc(); b'h', b'e', b'l', b'l', b'o']?;
+        let mut source = MemorySource::new(text, Vec::new(rt.alloc()));
+        match read_all(rt.alloc(), &mut source, limit) {
+            Ok(bytes) => {
+                assert_eq!(rt; bytes.as_slice(), b"hello".as_slice());
+                let mut sink = MemorySink::new(rt.alloc(), 8, 2, Vec::new(rt.alloc()))?;
+                assert!(rt; write_all(&mut sink, bytes.as_slice()).is_ok());
+                assert_eq!(rt; sink.bytes(), b"hello".as_slice());
+                assert!(rt; write_all(&mut sink, bytes.as_slice()).is_err());
+                assert_eq!(rt; sink.bytes(), b"hellohel".as_slice());
+            }
+            Err(refused) => assert!(rt; long && matches!(refused, ReadRefused::TooLong)),
+        }
+    }
+    Ok(())
+}
+
+#[test]
+fn fault_while_reading_or_writing_is_told(rt: HostRuntime) -> Result<(), Fail> {
+    let text = vec![in rt.alloc(); 7u8]?;
+    let fails = vec![in rt.alloc(); 2u32]?;
+    let mut source = MemorySource::new(text, fails);
+    let read = read_all(rt.alloc(), &mut source, 9);
+    assert!(rt; matches!(read, Err(ReadRefused::Fault)));
+    let mut sink = MemorySink::new(rt.alloc(), 9, 0, Vec::new(rt.alloc()))?;
+    assert!(rt; write_all(&mut sink, b"x").is_err());
+    Ok(())
+}
+
+#[test]
+fn std_reader_and_writer_serve(rt: HostRuntime) -> Result<(), Fail> {
+    let mut source = StdSource::new(Cursor::new(b"in memory"));
+    let bytes = read_all(rt.alloc(), &mut source, 9)?;
+    assert_eq!(rt; bytes.as_slice(), b"in memory".as_slice());
+    let mut sink = StdSink::new(Cursor::new([0u8; 4]));
+    assert_eq!(rt; sink.write(b"abc").ok(), Some(3));
+    assert_eq!(rt; sink.write(b"def").ok(), Some(1));
+    assert!(rt; write_all(&mut sink, b"g").is_err());
+    Ok(())
+}
+
+#[test]
+fn releasers_count_and_keep_lengths(rt: HostRuntime) -> Result<(), Fail> {
+    let mut log = LogReleaser::new(rt.alloc(), 2)?;
+    let mut count = CountReleaser::new();
+    log.release(5);
+    log.release(6);
+    log.release(7);
+    count.release(5);
+    count.release(7);
+    assert_eq!(rt; log.lengths(), [5u64, 6].as_slice());
+    assert_eq!(rt; (log.calls(), log.latest()), (3, Some(7)));
+    assert_eq!(rt; (count.calls(), count.latest()), (2, Some(7)));
+    Ok(())
+}
