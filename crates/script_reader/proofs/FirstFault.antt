@@ -6,13 +6,14 @@ use Rattle.std.proofs.lemmas.Bool.{both_ways}
 use Rattle.script_words.specs.declared.fault.Cause.{Cause}
 use Rattle.script_words.specs.declared.fault.Cause.TheVariants as causes
 use Rattle.script_reader.specs.declared.fault.ScriptError.{ScriptError}
-use Rattle.script_reader.specs.declared.script.Item.{Item}
+use Rattle.script_reader.specs.declared.progress.Item.{Item}
 use Rattle.plain_cord.specs.declared.script.Session.{Session}
 use Rattle.plain_cord.specs.declared.script.Script.{Script}
-use Rattle.script_reader.specs.declared.script.Progress.{Progress}
+use Rattle.script_reader.specs.declared.progress.Progress.{Progress}
 use Rattle.script_reader.specs.declared.fault.ReadRefused.{ReadRefused}
 use Rattle.script_reader.specs.declared.fault.ReadRefused.TheVariants as reads
-use Rattle.script_reader.specs.Reading.{◌>>=◌, Reads}
+use Rattle.script_words.specs.Reading.{◌>>=◌}
+use Rattle.script_reader.specs.ScriptReading.{Reads}
 use Rattle.script_reader.specs.Scripts.{is_ignored, step, located, script_of, lines_from, lines_of, start, is_header_line, headed, read_of}
 use Rattle.script_reader.specs.Spelling.{SpellsItem}
 use Rattle.script_reader.specs.ScriptSpelling.{IsWritten, SpellsLines}

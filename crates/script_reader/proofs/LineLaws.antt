@@ -7,18 +7,21 @@ use Rattle.std.proofs.lemmas.Slice.Eq.{bytes_eq-Decides}
 use Rattle.script_words.specs.declared.fault.Cause.{Cause}
 use Rattle.script_words.specs.declared.fault.Cause.TheVariants as causes
 use Rattle.plain_cord.specs.declared.script.Text.{Text}
-use Rattle.script_reader.specs.declared.script.Verb.{Verb}
-use Rattle.script_reader.specs.declared.script.Verb.TheVariants as verbs
-use Rattle.script_reader.specs.declared.script.Item.{Item}
-use Rattle.script_reader.specs.declared.script.Item.TheVariants as items
+use Rattle.script_reader.specs.declared.verbs.Verb.{Verb}
+use Rattle.script_reader.specs.declared.verbs.Verb.TheVariants as verbs
+use Rattle.script_reader.specs.declared.progress.Item.{Item}
+use Rattle.script_reader.specs.declared.progress.Item.TheVariants as items
+use Rattle.script_reader.specs.declared.progress.Setting.{Setting}
+use Rattle.script_reader.specs.declared.progress.Setting.TheVariants as settings
 use Rattle.plain_cord.specs.declared.script.Command.{Command}
 use Rattle.plain_cord.specs.declared.script.Command.TheVariants as commands
-use Rattle.script_reader.specs.Reading.{◌>>=◌}
-use Rattle.script_words.specs.Words.{cut, word_at, last_word_at, part_at, is_name_byte, is_shown}
+use Rattle.script_words.specs.Reading.{◌>>=◌}
+use Rattle.script_words.specs.Words.{cut, word_at, last_word_at, part_at, name_at, is_name_byte, is_shown}
 use Rattle.script_words.specs.Numbers.{number_at}
 use Rattle.script_words.specs.Texts.{text_at}
-use Rattle.script_reader.specs.Lines.{word_of, all_verbs, verb_in, verb_of, known, verb_at, name_at, name_line, number_line, name_text_line, name_number_line, number_name_line, sub_line, two_names_line, item_at}
-use Rattle.script_reader.specs.Spelling.{joined, command_verb, verb_for, SaysName, SaysNumber, SaysNameText, SaysNameNumber, SaysTwoNames, SaysNumberName, SaysSub, SaysCommand, Says, SpellsItem}
+use Rattle.script_reader.specs.Lines.{word_of, all_verbs, verb_in, verb_of, known, verb_at, name_line, number_line, name_text_line, name_number_line, number_name_line, sub_line, two_names_line, item_at}
+use Rattle.script_words.specs.Spelling.{joined}
+use Rattle.script_reader.specs.Spelling.{command_verb, setting_verb, verb_for, SaysName, SaysNumber, SaysNameText, SaysNameNumber, SaysTwoNames, SaysNumberName, SaysSub, SaysCommand, SaysSetting, Says, SpellsItem}
 use Rattle.script_words.proofs.Results.{bind_ok, if_ok, ok_is}
 use Rattle.script_words.proofs.NumberLaws.{number_found, number_again}
 use Rattle.script_words.proofs.TextLaws.{text_found, text_again}
@@ -36,6 +39,8 @@ verb_in_found (u ∷ us) w v e = by_test (verb_in_found us w v) (bytes_eq w (wor
 
 letters : (v : Verb) → list_all is_name_byte (word_of v) ≡ true
 letters verbs.Pool = refl
+letters verbs.Passes = refl
+letters verbs.Stride = refl
 letters verbs.Session = refl
 letters verbs.End = refl
 letters verbs.Let = refl
@@ -68,6 +73,8 @@ letters verbs.Unsnap = refl
 
 own_word : (v : Verb) → verb_of (word_of v) ≡ Some v
 own_word verbs.Pool = refl
+own_word verbs.Passes = refl
+own_word verbs.Stride = refl
 own_word verbs.Session = refl
 own_word verbs.End = refl
 own_word verbs.Let = refl
@@ -270,7 +277,9 @@ IsSaid v rest item = (verb_for item ≡ v) × Says rest item
 
 pub item_found : (v : Verb) (rest : Option (List ℕ)) (item : Item) → item_at v rest ≡ Ok item → IsSaid v rest item
 unfolding item_at
-item_found verbs.Pool rest item e = let a = bind_ok (number_line 1 262144 rest) (λ n. Ok (items.Pool n)) item e in subst (IsSaid verbs.Pool rest) (ok_is (items.Pool a.0) item a.2) (refl, number_line_found 1 262144 rest a.0 a.1)
+item_found verbs.Pool rest item e = let a = bind_ok (number_line 1 262144 rest) (λ n. Ok (items.Set (settings.Pool n))) item e in subst (IsSaid verbs.Pool rest) (ok_is (items.Set (settings.Pool a.0)) item a.2) (refl, number_line_found 1 262144 rest a.0 a.1)
+item_found verbs.Passes rest item e = let a = bind_ok (number_line 1 262144 rest) (λ n. Ok (items.Set (settings.Passes n))) item e in subst (IsSaid verbs.Passes rest) (ok_is (items.Set (settings.Passes a.0)) item a.2) (refl, number_line_found 1 262144 rest a.0 a.1)
+item_found verbs.Stride rest item e = let a = bind_ok (number_line 0 1000000 rest) (λ n. Ok (items.Set (settings.Stride n))) item e in subst (IsSaid verbs.Stride rest) (ok_is (items.Set (settings.Stride a.0)) item a.2) (refl, number_line_found 0 1000000 rest a.0 a.1)
 item_found verbs.Session rest item e = let a = bind_ok (name_line rest) (λ name. Ok (items.Begin name)) item e in subst (IsSaid verbs.Session rest) (ok_is (items.Begin a.0) item a.2) (refl, name_line_found rest a.0 a.1)
 item_found verbs.End rest item e = let a = if_ok (is_none rest) causes.Words (Ok items.End) item e in subst (IsSaid verbs.End rest) (ok_is items.End item a.1) (refl, none_is rest a.0)
 item_found verbs.Let rest item e = let a = bind_ok (name_text_line 0 rest) (λ x. Ok (items.Do (commands.Let x.0 x.1))) item e in subst (IsSaid verbs.Let rest) (ok_is (items.Do (commands.Let a.0.0 a.0.1)) item a.2) (refl, name_text_found 0 rest a.0 a.1)
@@ -331,9 +340,15 @@ command_again commands.Snap rest h = rw h refl
 command_again commands.Walk rest h = rw h refl
 command_again commands.Unsnap rest h = rw h refl
 
+setting_again : (setting : Setting) (rest : Option (List ℕ)) → SaysSetting rest setting → item_at (setting_verb setting) rest ≡ Ok (items.Set setting)
+unfolding item_at
+setting_again (settings.Pool n) rest h = rw (number_line_again 1 262144 rest n h) refl
+setting_again (settings.Passes n) rest h = rw (number_line_again 1 262144 rest n h) refl
+setting_again (settings.Stride n) rest h = rw (number_line_again 0 1000000 rest n h) refl
+
 pub item_again : (item : Item) (rest : Option (List ℕ)) → Says rest item → item_at (verb_for item) rest ≡ Ok item
 unfolding item_at
-item_again (items.Pool n) rest h = rw (number_line_again 1 262144 rest n h) refl
+item_again (items.Set setting) rest h = setting_again setting rest h
 item_again (items.Begin name) rest h = rw (name_line_again rest name h) refl
 item_again (items.Do command) rest h = command_again command rest h
 item_again items.End rest h = rw h refl
@@ -376,8 +391,13 @@ command_shown commands.Snap rest h = subst RestShown (sym h) tt
 command_shown commands.Walk rest h = subst RestShown (sym h) tt
 command_shown commands.Unsnap rest h = subst RestShown (sym h) tt
 
+setting_shown : (setting : Setting) (rest : Option (List ℕ)) → SaysSetting rest setting → RestShown rest
+setting_shown (settings.Pool n) rest h = some_shown rest h.0 h.1 (number_shown h.0 n h.2)
+setting_shown (settings.Passes n) rest h = some_shown rest h.0 h.1 (number_shown h.0 n h.2)
+setting_shown (settings.Stride n) rest h = some_shown rest h.0 h.1 (number_shown h.0 n h.2)
+
 item_shown : (item : Item) (rest : Option (List ℕ)) → Says rest item → RestShown rest
-item_shown (items.Pool n) rest h = some_shown rest h.0 h.1 (number_shown h.0 n h.2)
+item_shown (items.Set setting) rest h = setting_shown setting rest h
 item_shown (items.Begin name) rest h = some_shown rest name h.0 (name_shown name h.1)
 item_shown (items.Do command) rest h = command_shown command rest h
 item_shown items.End rest h = subst RestShown (sym h) tt

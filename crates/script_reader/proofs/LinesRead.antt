@@ -4,10 +4,11 @@ use Rattle.std.specs.Prelude.{unwrap_or}
 use Rattle.script_words.specs.declared.fault.Cause.TheVariants.{Header}
 use Rattle.script_reader.specs.declared.fault.ScriptError.{ScriptError}
 use Rattle.plain_cord.specs.declared.script.Script.{Script}
-use Rattle.script_reader.specs.declared.script.Progress.{Progress}
+use Rattle.script_reader.specs.declared.progress.Progress.{Progress}
 use Rattle.script_words.specs.declared.fault.Refused.{Refused}
 use Rattle.script_words.specs.declared.fault.Refused.TheVariants as errors
-use Rattle.script_reader.specs.Reading.{Fails, Stops, refused_at}
+use Rattle.script_words.specs.Reading.{Fails}
+use Rattle.script_reader.specs.ScriptReading.{Stops, refused_at}
 use Rattle.script_words.specs.Words.{cut}
 use Rattle.script_reader.specs.Scripts.{onto, lines_of, step, script_of, lines_from, start, is_header_line, headed, read_of}
 

@@ -1,20 +1,22 @@
 -- The lines of a script, both ways.
 use Rattle.std.proofs.Common.{◌≡◌, ◌≢◌, ℕ, ◌+◌, Bool, true, false, cond, eqb, List, [], ◌∷◌, ◌++◌, Option, Some, None, Result, Ok, Err, refl, sym, ap, ◌∙◌, inl, inr}
-use Rattle.std.specs.Prelude.{◌⊎◌, unwrap_or}
+use Rattle.std.specs.Prelude.{◌⊎◌}
 use Rattle.std.proofs.lemmas.Bool.{eqb-true, eqb-false, ne_eqb, cond_both}
 use Rattle.script_words.specs.declared.fault.Cause.{Cause}
 use Rattle.script_words.specs.declared.fault.Cause.TheVariants as causes
 use Rattle.script_reader.specs.declared.fault.ScriptError.{ScriptError}
-use Rattle.script_reader.specs.declared.script.Verb.{Verb}
-use Rattle.script_reader.specs.declared.script.Verb.TheVariants as verbs
-use Rattle.script_reader.specs.declared.script.Item.{Item}
+use Rattle.script_reader.specs.declared.verbs.Verb.{Verb}
+use Rattle.script_reader.specs.declared.verbs.Verb.TheVariants as verbs
+use Rattle.script_reader.specs.declared.progress.Item.{Item}
 use Rattle.plain_cord.specs.declared.script.Session.{Session}
 use Rattle.plain_cord.specs.declared.script.Script.{Script}
-use Rattle.script_reader.specs.declared.script.Progress.{Progress}
-use Rattle.script_reader.specs.Reading.{◌>>=◌}
+use Rattle.script_reader.specs.declared.progress.Progress.{Progress}
+use Rattle.script_words.specs.Reading.{◌>>=◌}
 use Rattle.script_reader.specs.Lines.{word_of, verb_at, item_at}
-use Rattle.script_reader.specs.Scripts.{onto, lines_of, is_ignored, is_placed, entered, said, step, located, script_of, lines_from}
-use Rattle.script_reader.specs.Spelling.{verb_for, joined, SpellsItem}
+use Rattle.script_reader.specs.Scripts.{onto, lines_of, is_ignored, is_placed, entered, said, step, located, script_from, script_of, lines_from}
+use Rattle.script_reader.specs.Built.{is_built}
+use Rattle.script_words.specs.Spelling.{joined}
+use Rattle.script_reader.specs.Spelling.{verb_for, SpellsItem}
 use Rattle.script_reader.specs.ScriptSpelling.{HasNoNewline, IsWritten, SpellsLines}
 use Rattle.script_reader.specs.Faults.{accepted, run}
 use Rattle.script_words.proofs.Results.{bind_ok, if_ok}
@@ -71,13 +73,15 @@ lines_again bytes (l ∷ ls) h = either l h.0 (λ after k. lines_again after ls 
 said_found : (p : Progress) (line : List ℕ) (q : Progress) → said p line ≡ Ok q → (item : Item) × SpellsItem line item × (accepted p item ≡ Ok q)
 unfolding said
 said_found p line q e =
-    let a = bind_ok (verb_at line) (λ verb. cond (is_placed p verb.0) (item_at verb.0 verb.1 >>= λ item. entered p item) (Err causes.Misplaced)) q e in
-    let b = if_ok (is_placed p a.0.0) causes.Misplaced (item_at a.0.0 a.0.1 >>= λ item. entered p item) q a.2 in
+    let a = bind_ok (verb_at line) (λ verb. cond (is_built p verb.0) (cond (is_placed p verb.0) (item_at verb.0 verb.1 >>= λ item. entered p item) (Err causes.Misplaced)) (Err causes.Unbuilt)) q e in
+    let d = if_ok (is_built p a.0.0) causes.Unbuilt (cond (is_placed p a.0.0) (item_at a.0.0 a.0.1 >>= λ item. entered p item) (Err causes.Misplaced)) q a.2 in
+    let b = if_ok (is_placed p a.0.0) causes.Misplaced (item_at a.0.0 a.0.1 >>= λ item. entered p item) q d.1 in
     let c = bind_ok (item_at a.0.0 a.0.1) (λ item. entered p item) q b.1 in
-    let f = item_found a.0.0 a.0.1 c.0 c.1 in (
+    let f = item_found a.0.0 a.0.1 c.0 c.1 in
+    let may : Verb → Result Progress Cause = λ v. cond (is_built p v) (cond (is_placed p v) (entered p c.0) (Err causes.Misplaced)) (Err causes.Unbuilt) in (
       c.0,
       record { rest = a.0.1; words = verb_found line a.0 a.1 ∙ ap (λ (v : Verb). joined (word_of v) a.0.1) (sym f.0); says = f.1 },
-      ap (λ (v : Verb). cond (is_placed p v) (entered p c.0) (Err causes.Misplaced)) f.0 ∙ ap (λ (t : Bool). cond t (entered p c.0) (Err causes.Misplaced)) b.0 ∙ c.2,
+      ap may f.0 ∙ ap (λ (t : Bool). cond t (cond (is_placed p a.0.0) (entered p c.0) (Err causes.Misplaced)) (Err causes.Unbuilt)) d.0 ∙ ap (λ (t : Bool). cond t (entered p c.0) (Err causes.Misplaced)) b.0 ∙ c.2,
     )
 
 said_again : (p : Progress) (line : List ℕ) (item : Item) → SpellsItem line item → said p line ≡ accepted p item
@@ -88,6 +92,10 @@ said_again p line item h = rw (spelled_verb line item h, item_again item h.rest 
 not_ignored : (v : Verb) (rest : Option (List ℕ)) → is_ignored (joined (word_of v) rest) ≡ false
 not_ignored verbs.Pool None = refl
 not_ignored verbs.Pool (Some r) = refl
+not_ignored verbs.Passes None = refl
+not_ignored verbs.Passes (Some r) = refl
+not_ignored verbs.Stride None = refl
+not_ignored verbs.Stride (Some r) = refl
 not_ignored verbs.Session None = refl
 not_ignored verbs.Session (Some r) = refl
 not_ignored verbs.End None = refl
@@ -146,9 +154,6 @@ not_ignored verbs.Walk None = refl
 not_ignored verbs.Walk (Some r) = refl
 not_ignored verbs.Unsnap None = refl
 not_ignored verbs.Unsnap (Some r) = refl
-
-abbrev pub script_from : Progress → Script
-script_from p = record { pool = unwrap_or p.pool 65536; sessions = p.done }
 
 pub record Ran (p : Progress) (lines : List (List ℕ)) (s : Script) : Type 0 where
   pub items : List Item

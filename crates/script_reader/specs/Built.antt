@@ -1,7 +1,7 @@
 -- The words of scripts that are built so far. What is built later adds its line here, and its word to `is_ready` in src/built.rt.
 use Rattle.std.specs.Prelude.{Bool, true, false, ◌&&◌, ◌||◌, ◌==◌, length, is_none}
-use Rattle.script_reader.specs.declared.progress.Verb.{Verb}
-use Rattle.script_reader.specs.declared.progress.Verb.TheVariants as verbs
+use Rattle.script_reader.specs.declared.verbs.Verb.{Verb}
+use Rattle.script_reader.specs.declared.verbs.Verb.TheVariants as verbs
 use Rattle.script_reader.specs.declared.progress.Progress.{Progress}
 
 unfoldable pub is_ready : Verb → Bool

@@ -1,18 +1,20 @@
 -- The first fault of a script: what stands before it could be the beginning of one.
+-- Which fault a line has is said by step, behind what was read before it; its tests stand in the order of the causes.
 use Rattle.std.specs.Prelude.{◌≡◌, ℕ, ◌+◌, true, ◌⊎◌, List, ◌∷◌, [], ◌++◌, length, Result, Ok, Err, is_some, codes, if◌then◌else◌}
 use Rattle.script_words.specs.declared.fault.Cause.{Cause}
 use Rattle.script_words.specs.declared.fault.Cause.TheVariants as causes
+use Rattle.script_words.specs.Reading.{◌>>=◌}
 use Rattle.script_reader.specs.declared.fault.ScriptError.{ScriptError}
-use Rattle.script_reader.specs.declared.script.Item.{Item}
-use Rattle.script_reader.specs.declared.script.Progress.{Progress}
-use Rattle.script_reader.specs.Reading.{◌>>=◌}
+use Rattle.script_reader.specs.declared.progress.Item.{Item}
+use Rattle.script_reader.specs.declared.progress.Progress.{Progress}
+use Rattle.script_reader.specs.Built.{is_built}
 use Rattle.script_reader.specs.Scripts.{is_placed, entered, step, start}
 use Rattle.script_reader.specs.Spelling.{verb_for}
 use Rattle.script_reader.specs.ScriptSpelling.{IsWritten, SpellsLines}
 
--- an item where it may stand
+-- an item that is built, where it may stand
 abbrev pub accepted : Progress → Item → Result Progress Cause
-accepted p item = if is_placed p (verb_for item) then entered p item else Err causes.Misplaced
+accepted p item = if is_built p (verb_for item) then (if is_placed p (verb_for item) then entered p item else Err causes.Misplaced) else Err causes.Unbuilt
 
 abbrev pub run : Progress → List Item → Result Progress Cause
 run p [] = Ok p
@@ -41,6 +43,9 @@ pub record IsUnended (n : ℕ) (p : Progress) (lines : List (List ℕ)) (e : Scr
   pub cause : e.cause ≡ causes.Unended
   pub number : e.line ≡ n + length lines
 
+abbrev pub HasNoHeader : List ℕ → Type 0
+HasNoHeader bytes = (lines : List (List ℕ)) → IsWritten bytes (codes "cords 1" ∷ lines) → ⊥
+
 abbrev pub IsFirstFault : List ℕ → ScriptError → Type 0
-IsFirstFault bytes e = (((lines : List (List ℕ)) → IsWritten bytes (codes "cords 1" ∷ lines) → ⊥) × (e.cause ≡ causes.Header) × (e.line ≡ 1))
+IsFirstFault bytes e = (HasNoHeader bytes × (e.cause ≡ causes.Header) × (e.line ≡ 1))
     ⊎ ((lines : List (List ℕ)) × IsWritten bytes (codes "cords 1" ∷ lines) × (IsLineFault 2 start lines e ⊎ IsUnended 2 start lines e))

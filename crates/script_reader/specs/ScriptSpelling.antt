@@ -94,7 +94,7 @@ is_ready_item item = is_ready (verb_for item)
 -- nothing that isn't built yet
 pub record AreBuilt (said : List Item) (sessions : List Session) : Type 0 where
   pub words : list_all is_ready_item said ≡ true
-  pub sessions : (has_many_sessions ≡ true) ⊎ (length sessions ≤ 1)
+  pub number : (has_many_sessions ≡ true) ⊎ (length sessions ≤ 1)
 
 pub record Spells (bytes : List ℕ) (script : Script) : Type 0 where
   pub lines : List (List ℕ)

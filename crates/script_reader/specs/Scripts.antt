@@ -9,8 +9,8 @@ use Rattle.plain_cord.specs.declared.script.Command.{Command}
 use Rattle.plain_cord.specs.declared.script.Session.{Session}
 use Rattle.plain_cord.specs.declared.script.Script.{Script}
 use Rattle.script_reader.specs.declared.fault.ScriptError.{ScriptError}
-use Rattle.script_reader.specs.declared.progress.Verb.{Verb}
-use Rattle.script_reader.specs.declared.progress.Verb.TheVariants as verbs
+use Rattle.script_reader.specs.declared.verbs.Verb.{Verb}
+use Rattle.script_reader.specs.declared.verbs.Verb.TheVariants as verbs
 use Rattle.script_reader.specs.declared.progress.Setting.{Setting}
 use Rattle.script_reader.specs.declared.progress.Setting.TheVariants as settings
 use Rattle.script_reader.specs.declared.progress.Settings.{Settings}

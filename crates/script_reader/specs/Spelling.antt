@@ -1,8 +1,8 @@
 -- How what a line says is spelled, apart from any reading.
 -- It takes from the reading side only the words themselves.
 use Rattle.std.specs.Prelude.{◌≡◌, ℕ, ◌-◌, ◌^◌, ◌≤◌, List, ◌∷◌, ◌++◌, Option, Some, None}
-use Rattle.script_reader.specs.declared.progress.Verb.{Verb}
-use Rattle.script_reader.specs.declared.progress.Verb.TheVariants as verbs
+use Rattle.script_reader.specs.declared.verbs.Verb.{Verb}
+use Rattle.script_reader.specs.declared.verbs.Verb.TheVariants as verbs
 use Rattle.script_reader.specs.declared.progress.Item.{Item}
 use Rattle.script_reader.specs.declared.progress.Item.TheVariants as items
 use Rattle.script_reader.specs.declared.progress.Setting.{Setting}

@@ -1,6 +1,6 @@
 //! Why a script could not be read.
 
-use script_words::{Cause, Refused};
+use script_words::Cause;
 
 /// The first fault of a script: its line, counted from 1, and what is wrong there.
 #[derive(Clone, Copy, Debug, PartialEq, Eq)]

@@ -1,19 +1,24 @@
-ghost use Rattle.std.specs.Prelude.{◌≡◌, ◌≤◌, ◌<◌, ◌∷◌, Ok, Err, IfOk, length, is_some, not};
-ghost use Rattle.std.specs.List.{list_any};
-ghost use Rattle.script_reader.specs.Reading.{Gives, Reads, refused_at};
-ghost use Rattle.script_reader.specs.Scripts.{is_ignored, is_placed, is_called, entered, said, step, lines_from, start, script_of, is_header_line, read_of, lines_of};
-ghost use Rattle.script_reader.specs.ScriptSpelling.{Spells};
-ghost use Rattle.script_reader.specs.Faults.{IsFirstFault};
+//! Reads a script, line by line.
+ghost use Rattle.std.specs.Prelude.{◌≡◌, ◌≤◌, ◌<◌, ◌∷◌, Ok, Err, IfOk, length, not};
+ghost use Rattle.script_words.specs.Reading.{Gives};
 ghost use Rattle.plain_cord.specs.declared.script.Script.{Script as Script_value};
 ghost use Rattle.script_reader.specs.declared.fault.ScriptError.{ScriptError as ScriptError_value};
+ghost use Rattle.script_reader.specs.ScriptReading.{Reads, refused_at};
+ghost use Rattle.script_reader.specs.Scripts.{is_ignored, said, step, lines_from, start, script_of, is_header_line, read_of, lines_of};
+ghost use Rattle.script_reader.specs.ScriptSpelling.{Spells};
+ghost use Rattle.script_reader.specs.Faults.{IsFirstFault};
+ghost use Rattle.script_reader.specs.Limits.{IsWithinLimits};
 
-use crate::fault::{Cause, ReadRefused, Refused, ScriptError};
-use crate::items::Items;
-use crate::lines::{read_item, read_verb};
-use crate::script::{Item, Progress, Script, Session, Verb};
-use crate::words::first_part;
+use crate::built::says_built;
+use crate::fault::{ReadRefused, ScriptError};
+use crate::lines::read_item;
+use crate::progress::{Progress, Settings, enter, may_stand};
+use crate::verbs::read_verb;
+use plain_cord::{Items, Script};
+use script_words::{Cause, Refused, first_part};
 use std::alloc::Global;
 
+/// Whether the line is neither empty nor a comment.
 fn is_said(line: &[u8]) -> bool
     ensures { result ≡ not (is_ignored line.now) }
 {
@@ -23,100 +28,15 @@ fn is_said(line: &[u8]) -> bool
     }
 }
 
-fn may_stand(progress: &Progress, verb: Verb) -> bool
-    ensures { result ≡ is_placed progress.now verb }
-{
-    match verb {
-        Verb::Pool => progress.current.is_none() && progress.done.len() == 0,
-        Verb::Session => progress.current.is_none(),
-        _ => progress.current.is_some(),
-    }
-}
-
-fn has_name(sessions: &[Session], name: &[u8]) -> bool
-    ensures { result ≡ list_any (is_called name.now) sessions.now }
-{
-    for session in sessions {
-        if session.name.as_slice() == name {
-            return true;
-        }
-    }
-    false
-}
-
-#[tactic(auto, unfolding(crate::specs::Scripts::entered))]
-fn enter(alloc: Global, progress: Progress, item: Item) -> Result<Progress, Refused>
-    ensures { Gives (λ p. p) result (entered progress item) }
-{
-    let Progress {
-        pool,
-        mut done,
-        current,
-        commands,
-    } = progress;
-    match item {
-        Item::Pool(n) => match pool {
-            None => Ok(Progress {
-                pool: Some(n),
-                done,
-                current,
-                commands,
-            }),
-            Some(_) => Err(Refused::Fault(Cause::Duplicate)),
-        },
-        Item::Begin(name) => {
-            if has_name(done.as_slice(), name.as_slice()) {
-                return Err(Refused::Fault(Cause::Duplicate));
-            }
-            if done.len() >= 16 {
-                return Err(Refused::Fault(Cause::Many));
-            }
-            let session = Session {
-                name,
-                commands: Items::new(alloc),
-            };
-            Ok(Progress {
-                pool,
-                done,
-                current: Some(session),
-                commands,
-            })
-        }
-        Item::Do(command) => match current {
-            None => Err(Refused::Fault(Cause::Misplaced)),
-            Some(mut session) => {
-                if commands >= 16384 {
-                    return Err(Refused::Fault(Cause::Many));
-                }
-                session.commands.push(command)?;
-                Ok(Progress {
-                    pool,
-                    done,
-                    current: Some(session),
-                    commands: commands + 1,
-                })
-            }
-        },
-        Item::End => match current {
-            None => Err(Refused::Fault(Cause::Misplaced)),
-            Some(session) => {
-                done.push(session)?;
-                Ok(Progress {
-                    pool,
-                    done,
-                    current: None,
-                    commands,
-                })
-            }
-        },
-    }
-}
-
+/// A line that says something.
 #[tactic(auto, unfolding(crate::specs::Scripts::said))]
 fn read_said(alloc: Global, progress: Progress, line: &[u8]) -> Result<Progress, Refused>
     ensures { Gives (λ p. p) result (said progress line.now) }
 {
     let (verb, rest) = read_verb(line)?;
+    if !says_built(&progress, verb) {
+        return Err(Refused::Fault(Cause::Unbuilt));
+    }
     if !may_stand(&progress, verb) {
         return Err(Refused::Fault(Cause::Misplaced));
     }
@@ -124,6 +44,7 @@ fn read_said(alloc: Global, progress: Progress, line: &[u8]) -> Result<Progress,
     enter(alloc, progress, item)
 }
 
+/// One line more.
 #[tactic(auto, unfolding(crate::specs::Scripts::step))]
 fn read_line(alloc: Global, progress: Progress, line: &[u8]) -> Result<Progress, Refused>
     ensures { Gives (λ p. p) result (step progress line.now) }
@@ -148,6 +69,7 @@ fn next_line(bytes: &[u8]) -> (&[u8], &[u8])
     }
 }
 
+/// A line's fault, with the line's number.
 fn at_line(refused: Refused, line: u32) -> ReadRefused
     ensures { result ≡ refused_at line refused }
 {
@@ -157,12 +79,17 @@ fn at_line(refused: Refused, line: u32) -> ReadRefused
     }
 }
 
+/// The lines behind the first.
 fn read_lines(alloc: Global, bytes: &[u8]) -> Result<Script, ReadRefused>
     requires { length bytes.now ≤ 16777216 }
     ensures { Reads (λ s. s) result (lines_from 2 start (lines_of bytes.now)) }
 {
     let mut progress = Progress {
-        pool: None,
+        settings: Settings {
+            pool: None,
+            passes: None,
+            stride: None,
+        },
         done: Items::new(alloc),
         current: None,
         commands: 0,
@@ -181,18 +108,21 @@ fn read_lines(alloc: Global, bytes: &[u8]) -> Result<Script, ReadRefused>
     finish(progress, line_number)
 }
 
+/// The script, where no session is open at its end.
 fn finish(progress: Progress, line: u32) -> Result<Script, ReadRefused>
     ensures { Reads (λ s. s) result (script_of line progress progress.current) }
 {
     let Progress {
-        pool,
+        settings,
         done,
         current,
         commands: _,
     } = progress;
     match current {
         None => Ok(Script {
-            pool: pool.unwrap_or(65536),
+            pool: settings.pool.unwrap_or(65536),
+            passes: settings.passes.unwrap_or(16384),
+            stride: settings.stride.unwrap_or(0),
             sessions: done,
         }),
         Some(_) => Err(ReadRefused::Script(ScriptError {
@@ -208,6 +138,7 @@ fn is_header(line: &[u8]) -> bool
     line == b"cords 1".as_slice()
 }
 
+/// The script, or its first fault.
 fn read_all(alloc: Global, bytes: &[u8]) -> Result<Script, ReadRefused>
     requires { length bytes.now ≤ 16777216 }
     ensures { Reads (λ s. s) result (read_of bytes.now) }
@@ -228,7 +159,7 @@ fn read_all(alloc: Global, bytes: &[u8]) -> Result<Script, ReadRefused>
     read_lines(alloc, rest)
 }
 
-/// The script that the bytes spell.
+/// The script that the bytes spell, or its first fault.
 pub fn read_script(alloc: Global, bytes: &[u8]) -> Result<Script, ReadRefused>
     requires { length bytes.now ≤ 16777216 }
     // What is read is spelled so.
@@ -239,7 +170,9 @@ pub fn read_script(alloc: Global, bytes: &[u8]) -> Result<Script, ReadRefused>
     ensures first { (e : ScriptError_value) → result ≡ Err (ReadRefused.Script e) → IsFirstFault bytes.now e }
     // The first fault is told, unless memory runs out.
     ensures faulty { (e : ScriptError_value) → IsFirstFault bytes.now e → Reads {X = Script_value} (λ s. s) result (Err e) }
-    // Which fault it is, and in which line.
+    // Names, texts, numbers and counts are within the limits of the format.
+    ensures limits { IfOk result IsWithinLimits }
+    // The script or the fault, as a function of the bytes.
     ensures exact { Reads (λ s. s) result (read_of bytes.now) }
 {
     read_all(alloc, bytes)
