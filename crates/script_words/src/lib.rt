@@ -11,3 +11,6 @@ pub use fault::{Cause, Refused};
 pub use numbers::read_number;
 pub use texts::read_text;
 pub use words::{all_shown, first_part, is_name, read_name, take_last_word, take_part, take_word};
+
+#[cfg(test)]
+mod tests;
