@@ -1,0 +1,9 @@
+pub mod LinesRead
+pub mod LineLaws
+pub mod ScriptLines
+pub mod SettingLaws
+pub mod Runs
+pub mod Holds
+pub mod LimitLaws
+pub mod FirstFault
+pub mod WholeLaws

@@ -1,0 +1,168 @@
+-- What is spelled is within the limits.
+use Rattle.std.proofs.Common.{◌≡◌, ℕ, ◌≤◌, ◌<◌, Bool, true, List, [], ◌∷◌, ◌++◌, length, map, Option, Result, Ok, Err, refl, sym, ap, ◌∙◌, subst, arith, inl, inr}
+use Rattle.std.specs.Prelude.{◌&&◌, ◌⊎◌, IfOk}
+use Rattle.std.specs.List.{All, list_all, flat_map}
+use Rattle.std.proofs.lemmas.Bool.{and_parts}
+use Rattle.std.proofs.lemmas.List.Concat.{flat_map-cons}
+use Rattle.std.proofs.lemmas.List.Elements.{All-nil, All-cons}
+use Rattle.std.proofs.lemmas.List.Folds.{list_all-append}
+use Rattle.script_words.specs.Spelling.{IsName}
+use Rattle.plain_cord.specs.declared.script.Command.{Command}
+use Rattle.plain_cord.specs.declared.script.Command.TheVariants as commands
+use Rattle.plain_cord.specs.declared.script.Session.{Session}
+use Rattle.plain_cord.specs.declared.script.Script.{Script}
+use Rattle.script_reader.specs.declared.verbs.Verb.TheVariants as verbs
+use Rattle.script_reader.specs.declared.progress.Setting.{Setting}
+use Rattle.script_reader.specs.declared.progress.Setting.TheVariants as settings
+use Rattle.script_reader.specs.declared.progress.Item.{Item}
+use Rattle.script_reader.specs.declared.progress.Item.TheVariants as items
+use Rattle.script_reader.specs.declared.fault.ReadRefused.{ReadRefused}
+use Rattle.script_reader.specs.Built.{is_ready}
+use Rattle.script_reader.specs.Spelling.{SaysSetting, SaysCommand, Says}
+use Rattle.script_reader.specs.ScriptSpelling.{SpellsLines, numbers, pool_number, passes_number, stride_number, IsGiven, session_items, script_items, is_ready_item, Spells}
+use Rattle.script_reader.specs.Limits.{HasSoundParts, IsSoundCommand, IsSoundSession, IsWithinLimits}
+
+abbrev IsSoundSetting : Setting → Type 0
+IsSoundSetting (settings.Pool n) = (1 ≤ n) × (n ≤ 262144)
+IsSoundSetting (settings.Passes n) = (1 ≤ n) × (n ≤ 262144)
+IsSoundSetting (settings.Stride n) = n ≤ 1000000
+
+abbrev IsSound : Item → Type 0
+IsSound (items.Set setting) = IsSoundSetting setting
+IsSound (items.Begin name) = IsName name
+IsSound (items.Do command) = HasSoundParts command
+IsSound items.End = Unit {0}
+
+abbrev AreSound : List Item → Type 0
+AreSound [] = Unit {0}
+AreSound (item ∷ more) = IsSound item × AreSound more
+
+command_sound : (command : Command) (rest : Option (List ℕ)) → SaysCommand rest command → HasSoundParts command
+command_sound (commands.Let a text) rest h = (h.2, (h.3.long, h.3.fits))
+command_sound (commands.Ext a text) rest h = (h.2, (h.3.long, h.3.fits))
+command_sound (commands.Append a text) rest h = (h.2, (h.3.long, h.3.fits))
+command_sound (commands.Prepend a text) rest h = (h.2, (h.3.long, h.3.fits))
+command_sound (commands.Find a text) rest h = (h.2, (h.3.long, h.3.fits))
+command_sound (commands.Starts a text) rest h = (h.2, (h.3.long, h.3.fits))
+command_sound (commands.Ends a text) rest h = (h.2, (h.3.long, h.3.fits))
+command_sound (commands.Copy a b) rest h = (h.1, h.2)
+command_sound (commands.Join a b) rest h = (h.1, h.2)
+command_sound (commands.JoinFront a b) rest h = (h.1, h.2)
+command_sound (commands.Compare a b) rest h = (h.1, h.2)
+command_sound (commands.Clear a) rest h = h.1
+command_sound (commands.Sum a) rest h = h.1
+command_sound (commands.Size a) rest h = h.1
+command_sound (commands.Print a) rest h = h.1
+command_sound (commands.CutFront a n) rest h = (h.2, omega (arith, h.5))
+command_sound (commands.CutBack a n) rest h = (h.2, omega (arith, h.5))
+command_sound (commands.At a n) rest h = (h.2, omega (arith, h.5))
+command_sound (commands.SetSum a n) rest h = (h.2, omega (arith, h.5))
+command_sound (commands.Put a n) rest h = (h.2, omega (arith, h.5))
+command_sound (commands.Swap a n) rest h = (h.2, omega (arith, h.5))
+command_sound (commands.Take n a) rest h = (h.2, omega (arith, h.5))
+command_sound (commands.Peek n a) rest h = (h.2, omega (arith, h.5))
+command_sound (commands.Sub a pos n b) rest h = (h.3, h.4, h.5.small, h.6.small)
+command_sound commands.Snap rest h = tt
+command_sound commands.Walk rest h = tt
+command_sound commands.Unsnap rest h = tt
+
+setting_sound : (setting : Setting) (rest : Option (List ℕ)) → SaysSetting rest setting → IsSoundSetting setting
+setting_sound (settings.Pool n) rest h = (h.3, h.4)
+setting_sound (settings.Passes n) rest h = (h.3, h.4)
+setting_sound (settings.Stride n) rest h = h.4
+
+item_sound : (item : Item) (rest : Option (List ℕ)) → Says rest item → IsSound item
+item_sound (items.Set setting) rest h = setting_sound setting rest h
+item_sound (items.Begin name) rest h = h.1
+item_sound (items.Do command) rest h = command_sound command rest h
+item_sound items.End rest h = tt
+
+lines_sound : (lines : List (List ℕ)) (said : List Item) → SpellsLines lines said → AreSound said
+lines_sound [] said h = subst AreSound (sym h) tt
+lines_sound (l ∷ ls) said (inl h) = lines_sound ls said h.1
+lines_sound (l ∷ ls) said (inr h) = subst AreSound (sym h.2) (item_sound h.0 h.3.rest h.3.says, lines_sound ls h.1 h.4)
+
+sound_parts : (xs ys : List Item) → AreSound (xs ++ ys) → AreSound xs × AreSound ys
+sound_parts [] ys h = (tt, h)
+sound_parts (x ∷ xs) ys h = let a = sound_parts xs ys h.1 in ((h.0, a.0), a.1)
+
+ready_parts : (xs ys : List Item) → list_all is_ready_item (xs ++ ys) ≡ true → (list_all is_ready_item xs ≡ true) × (list_all is_ready_item ys ≡ true)
+ready_parts xs ys h = and_parts (list_all is_ready_item xs) (list_all is_ready_item ys) (sym (list_all-append is_ready_item xs ys) ∙ h)
+
+-- ---- options
+
+pool_sound : (ss : List Setting) (n : ℕ) → AreSound (map items.Set ss) → numbers pool_number ss ≡ n ∷ [] → (1 ≤ n) × (n ≤ 262144)
+pool_sound [] n h e = absurd cc
+pool_sound (settings.Pool m ∷ ss) n h e = let same : m ≡ n = cc in subst (λ (k : ℕ). (1 ≤ k) × (k ≤ 262144)) same h.0
+pool_sound (settings.Passes m ∷ ss) n h e = pool_sound ss n h.1 e
+pool_sound (settings.Stride m ∷ ss) n h e = pool_sound ss n h.1 e
+
+passes_sound : (ss : List Setting) (n : ℕ) → AreSound (map items.Set ss) → numbers passes_number ss ≡ n ∷ [] → (1 ≤ n) × (n ≤ 262144)
+passes_sound [] n h e = absurd cc
+passes_sound (settings.Pool m ∷ ss) n h e = passes_sound ss n h.1 e
+passes_sound (settings.Passes m ∷ ss) n h e = let same : m ≡ n = cc in subst (λ (k : ℕ). (1 ≤ k) × (k ≤ 262144)) same h.0
+passes_sound (settings.Stride m ∷ ss) n h e = passes_sound ss n h.1 e
+
+stride_sound : (ss : List Setting) (n : ℕ) → AreSound (map items.Set ss) → numbers stride_number ss ≡ n ∷ [] → n ≤ 1000000
+stride_sound [] n h e = absurd cc
+stride_sound (settings.Pool m ∷ ss) n h e = stride_sound ss n h.1 e
+stride_sound (settings.Passes m ∷ ss) n h e = stride_sound ss n h.1 e
+stride_sound (settings.Stride m ∷ ss) n h e = let same : m ≡ n = cc in subst (λ (k : ℕ). k ≤ 1000000) same h.0
+
+given_pool : (ss : List Setting) (n : ℕ) → AreSound (map items.Set ss) → IsGiven 65536 (numbers pool_number ss) n → (1 ≤ n) × (n ≤ 262144)
+given_pool ss n h (inl k) = (omega (arith, k.1), omega (arith, k.1))
+given_pool ss n h (inr k) = pool_sound ss n h k
+
+given_passes : (ss : List Setting) (n : ℕ) → AreSound (map items.Set ss) → IsGiven 16384 (numbers passes_number ss) n → (1 ≤ n) × (n ≤ 262144)
+given_passes ss n h (inl k) = (omega (arith, k.1), omega (arith, k.1))
+given_passes ss n h (inr k) = passes_sound ss n h k
+
+given_stride : (ss : List Setting) (n : ℕ) → AreSound (map items.Set ss) → IsGiven 0 (numbers stride_number ss) n → n ≤ 1000000
+given_stride ss n h (inl k) = omega (arith, k.1)
+given_stride ss n h (inr k) = stride_sound ss n h k
+
+-- ---- sessions
+
+commands_sound : (cs : List Command) → AreSound (map items.Do cs) → list_all is_ready_item (map items.Do cs) ≡ true → All IsSoundCommand cs
+commands_sound [] h ready = All-nil IsSoundCommand
+commands_sound (c ∷ cs) h ready =
+    let a = and_parts (is_ready_item (items.Do c)) (list_all is_ready_item (map items.Do cs)) ready in
+    All-cons IsSoundCommand c cs (record { built = a.0; parts = h.0 }) (commands_sound cs h.1 a.1)
+
+session_sound : (s : Session) → AreSound (session_items s) → list_all is_ready_item (session_items s) ≡ true → IsSoundSession s
+session_sound s h ready =
+    let a = and_parts (is_ready verbs.Session) (list_all is_ready_item (map items.Do s.commands ++ items.End ∷ [])) ready in
+    let b = ready_parts (map items.Do s.commands) (items.End ∷ []) a.1 in
+    let c = sound_parts (map items.Do s.commands) (items.End ∷ []) h.1 in
+    record { name = h.0; commands = commands_sound s.commands c.0 b.0 }
+
+sessions_sound : (ss : List Session) → AreSound (flat_map session_items ss) → list_all is_ready_item (flat_map session_items ss) ≡ true → All IsSoundSession ss
+sessions_sound [] h ready = All-nil IsSoundSession
+sessions_sound (s ∷ ss) h ready =
+    let a = sound_parts (session_items s) (flat_map session_items ss) (subst AreSound (flat_map-cons session_items s ss) h) in
+    let b = ready_parts (session_items s) (flat_map session_items ss) (ap (list_all is_ready_item) (sym (flat_map-cons session_items s ss)) ∙ ready) in
+    All-cons IsSoundSession s ss (session_sound s a.0 b.0) (sessions_sound ss a.1 b.1)
+
+-- ---- the whole
+
+pub spelled_within : (bytes : List ℕ) (s : Script) → Spells bytes s → IsWithinLimits s
+spelled_within bytes s h =
+    let a = sound_parts (map items.Set h.options) (flat_map session_items s.sessions) (lines_sound h.lines (script_items h.options s.sessions) h.spelled) in
+    let b = ready_parts (map items.Set h.options) (flat_map session_items s.sessions) h.built.words in
+    let pool = given_pool h.options s.pool a.0 h.given.pool in
+    let passes = given_passes h.options s.passes a.0 h.given.passes in
+    record {
+      some_pool = pool.0;
+      pool = pool.1;
+      some_passes = passes.0;
+      passes = passes.1;
+      stride = given_stride h.options s.stride a.0 h.given.stride;
+      sessions = sessions_sound s.sessions a.1 b.1;
+      differ = h.differ;
+      few = h.few;
+      short = h.short;
+    }
+
+pub is_within : (bytes : List ℕ) (r : Result Script ReadRefused) → IfOk r (λ s. Spells bytes s) → IfOk r IsWithinLimits
+is_within bytes (Ok s) h = spelled_within bytes s h
+is_within bytes (Err e) h = tt

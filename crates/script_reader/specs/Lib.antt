@@ -1,0 +1,8 @@
+pub mod Lines
+pub mod Built
+pub mod Scripts
+pub mod Spelling
+pub mod ScriptSpelling
+pub mod ScriptReading
+pub mod Faults
+pub mod Limits

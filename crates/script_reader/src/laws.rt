@@ -1,0 +1,37 @@
+//! Laws of spellings and faults, for all bytes.
+ghost use Rattle.std.specs.Prelude.{◌≡◌, ◌⊎◌, ℕ, List, Ok, Err};
+ghost use Rattle.plain_cord.specs.declared.script.Script.{Script as Script_value};
+ghost use Rattle.script_reader.specs.declared.fault.ScriptError.{ScriptError as ScriptError_value};
+ghost use Rattle.script_reader.specs.Scripts.{read_of};
+ghost use Rattle.script_reader.specs.ScriptSpelling.{Spells};
+ghost use Rattle.script_reader.specs.Faults.{IsFirstFault};
+ghost use Rattle.script_reader.specs.Limits.{IsWithinLimits};
+
+/// A script is read back from each of its spellings.
+pub fn spelled_script_is_read()
+    ensures { (bytes : List ℕ) (s : Script_value) → Spells bytes s → read_of bytes ≡ Ok s }
+{}
+
+/// What is read, as a function of the bytes, is spelled so, and a fault is the first one, which is always told.
+pub fn readings_are_right()
+    ensures script { (bytes : List ℕ) (s : Script_value) → read_of bytes ≡ Ok s → Spells bytes s }
+    ensures fault { (bytes : List ℕ) (e : ScriptError_value) → read_of bytes ≡ Err e → IsFirstFault bytes e }
+    ensures told { (bytes : List ℕ) (e : ScriptError_value) → IsFirstFault bytes e → read_of bytes ≡ Err e }
+{}
+
+/// Spellings of different scripts differ.
+pub fn spellings_differ()
+    ensures { (bytes : List ℕ) (s : Script_value) (t : Script_value) → Spells bytes s → Spells bytes t → s ≡ t }
+{}
+
+/// All bytes spell a script or have a first fault, never both, and one first fault at most.
+pub fn fault_or_script()
+    ensures one { (bytes : List ℕ) → ((s : Script_value) × Spells bytes s) ⊎ ((e : ScriptError_value) × IsFirstFault bytes e) }
+    ensures not_both { (bytes : List ℕ) (s : Script_value) (e : ScriptError_value) → Spells bytes s → IsFirstFault bytes e → ⊥ }
+    ensures first { (bytes : List ℕ) (e : ScriptError_value) (f : ScriptError_value) → IsFirstFault bytes e → IsFirstFault bytes f → e ≡ f }
+{}
+
+/// A script that is spelled has sound names, texts, numbers and counts.
+pub fn spelled_script_is_within_limits()
+    ensures { (bytes : List ℕ) (s : Script_value) → Spells bytes s → IsWithinLimits s }
+{}

@@ -1,0 +1,6 @@
+pub mod Digits
+pub mod Pieces
+pub mod Results
+pub mod NumberLaws
+pub mod TextLaws
+pub mod WordLaws

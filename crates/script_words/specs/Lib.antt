@@ -1,0 +1,6 @@
+pub mod Causes
+pub mod Reading
+pub mod Words
+pub mod Numbers
+pub mod Texts
+pub mod Spelling

@@ -1,0 +1,16 @@
+//! The parts of a script's lines: words, names, numbers and texts, and the causes of their faults.
+//! What is read of each is spelled so, and what is spelled so is read.
+#![tactic(auto)]
+
+mod fault;
+mod numbers;
+mod texts;
+mod words;
+
+pub use fault::{Cause, Refused};
+pub use numbers::read_number;
+pub use texts::read_text;
+pub use words::{all_shown, first_part, is_name, read_name, take_last_word, take_part, take_word};
+
+#[cfg(test)]
+mod tests;
