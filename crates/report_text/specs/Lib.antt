@@ -1,0 +1,4 @@
+pub mod Quotes
+pub mod Replies
+pub mod Outputs
+pub mod Lines

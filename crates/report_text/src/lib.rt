@@ -1,0 +1,9 @@
+//! The text of what a run answers, written a line at a time. No call takes memory.
+#![tactic(auto)]
+
+mod line;
+mod quoting;
+mod replies;
+mod writing;
+
+pub use writing::write_run;

@@ -1,0 +1,119 @@
+//! The books of a run, to a sink.
+ghost use Rattle.std.specs.Prelude.{◌≡◌, ◌≤◌, ◌<◌, ◌∷◌, [], length, OnOk, OnErr};
+ghost use Rattle.std.specs.List.{All};
+ghost use Rattle.std.specs.Io.KnownBytes.{Appends};
+ghost use Rattle.cord_port.specs.Causes.{Rose};
+ghost use Rattle.cord_port.specs.Texts.{AppendsPart};
+ghost use Rattle.report_text.specs.Replies.{IsShortReply};
+ghost use Rattle.report_text.specs.Outputs.{line_of, session_line, reply_line, reply_lines, session_text, output_text, IsPrintable};
+ghost use Rattle.report_text.specs.Lines.{line_bytes, line_length};
+
+use crate::line::{LINE, Line};
+use crate::replies::push_reply;
+use cord_port::{Failed, Sink, write_all};
+use plain_cord::{Book, Reply, Script, Session};
+
+// Ends the line and hands it to the sink.
+fn write_line<K: Sink>(line: &mut Line, sink: &mut K) -> Result<(), Failed>
+    requires { line_length line.old < LINE }
+    ensures whole { OnOk result (Appends (K.held sink.old) (K.held sink.new) (line_of (line_bytes line.old))) }
+    ensures kept { OnOk result (K.faults sink.new ≡ K.faults sink.old) }
+    ensures part { AppendsPart (K.held sink.old) (K.held sink.new) (line_of (line_bytes line.old)) }
+    ensures cause { OnErr result (Rose (K.faults sink.old) (K.faults sink.new)) }
+    ensures later { K.faults sink.old ≤ K.faults sink.new }
+{
+    line.push(b'\n');
+    write_all(sink, line.as_slice())
+}
+
+fn write_session_line<K: Sink>(line: &mut Line, name: &[u8], sink: &mut K) -> Result<(), Failed>
+    requires { length name.now ≤ 16 }
+    ensures whole { OnOk result (Appends (K.held sink.old) (K.held sink.new) (session_line name.now)) }
+    ensures kept { OnOk result (K.faults sink.new ≡ K.faults sink.old) }
+    ensures part { AppendsPart (K.held sink.old) (K.held sink.new) (session_line name.now) }
+    ensures cause { OnErr result (Rose (K.faults sink.old) (K.faults sink.new)) }
+    ensures later { K.faults sink.old ≤ K.faults sink.new }
+{
+    line.clear();
+    line.push_text(b"session ");
+    line.push_text(name);
+    write_line(line, sink)
+}
+
+fn write_reply<K: Sink>(line: &mut Line, reply: &Reply, sink: &mut K) -> Result<(), Failed>
+    requires { IsShortReply reply.now }
+    ensures whole { OnOk result (Appends (K.held sink.old) (K.held sink.new) (reply_line reply.now)) }
+    ensures kept { OnOk result (K.faults sink.new ≡ K.faults sink.old) }
+    ensures part { AppendsPart (K.held sink.old) (K.held sink.new) (reply_line reply.now) }
+    ensures cause { OnErr result (Rose (K.faults sink.old) (K.faults sink.new)) }
+    ensures later { K.faults sink.old ≤ K.faults sink.new }
+{
+    line.clear();
+    push_reply(line, reply);
+    write_line(line, sink)
+}
+
+fn write_replies<K: Sink>(line: &mut Line, replies: &[Reply], sink: &mut K) -> Result<(), Failed>
+    requires { All IsShortReply replies.now }
+    ensures whole { OnOk result (Appends (K.held sink.old) (K.held sink.new) (reply_lines replies.now)) }
+    ensures kept { OnOk result (K.faults sink.new ≡ K.faults sink.old) }
+    ensures part { AppendsPart (K.held sink.old) (K.held sink.new) (reply_lines replies.now) }
+    ensures cause { OnErr result (Rose (K.faults sink.old) (K.faults sink.new)) }
+    ensures later { K.faults sink.old ≤ K.faults sink.new }
+{
+    for reply in replies {
+        write_reply(line, reply, sink)?;
+    }
+    Ok(())
+}
+
+fn write_session<K: Sink>(
+    line: &mut Line,
+    session: &Session,
+    book: &Book,
+    sink: &mut K,
+) -> Result<(), Failed>
+    requires name { length session.now.name ≤ 16 }
+    requires short { All IsShortReply book.now.replies }
+    ensures whole { OnOk result (Appends (K.held sink.old) (K.held sink.new) (session_text (session.now, book.now))) }
+    ensures kept { OnOk result (K.faults sink.new ≡ K.faults sink.old) }
+    ensures part { AppendsPart (K.held sink.old) (K.held sink.new) (session_text (session.now, book.now)) }
+    ensures cause { OnErr result (Rose (K.faults sink.old) (K.faults sink.new)) }
+    ensures later { K.faults sink.old ≤ K.faults sink.new }
+{
+    write_session_line(line, session.name.as_slice(), sink)?;
+    write_replies(line, book.replies.as_slice(), sink)
+}
+
+fn write_sessions<K: Sink>(
+    line: &mut Line,
+    sessions: &[Session],
+    books: &[Book],
+    sink: &mut K,
+) -> Result<(), Failed>
+    requires { IsPrintable sessions.now books.now }
+    ensures whole { OnOk result (Appends (K.held sink.old) (K.held sink.new) (output_text sessions.now books.now)) }
+    ensures kept { OnOk result (K.faults sink.new ≡ K.faults sink.old) }
+    ensures part { AppendsPart (K.held sink.old) (K.held sink.new) (output_text sessions.now books.now) }
+    ensures cause { OnErr result (Rose (K.faults sink.old) (K.faults sink.new)) }
+    ensures later { K.faults sink.old ≤ K.faults sink.new }
+{
+    for i in 0..books.len() {
+        write_session(line, &sessions[i], &books[i], sink)?;
+    }
+    Ok(())
+}
+
+/// Writes a run: for each session the line of its name and those of its answers. The sink is handed a line at a
+/// time. After a failure it got a beginning of the text.
+pub fn write_run<K: Sink>(script: &Script, books: &[Book], sink: &mut K) -> Result<(), Failed>
+    requires { IsPrintable script.now.sessions books.now }
+    ensures whole { OnOk result (Appends (K.held sink.old) (K.held sink.new) (output_text script.now.sessions books.now)) }
+    ensures kept { OnOk result (K.faults sink.new ≡ K.faults sink.old) }
+    ensures part { AppendsPart (K.held sink.old) (K.held sink.new) (output_text script.now.sessions books.now) }
+    ensures cause { OnErr result (Rose (K.faults sink.old) (K.faults sink.new)) }
+    ensures later { K.faults sink.old ≤ K.faults sink.new }
+{
+    let mut line = Line::new();
+    write_sessions(&mut line, script.sessions.as_slice(), books, sink)
+}
