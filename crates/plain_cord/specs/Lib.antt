@@ -2,3 +2,4 @@ pub mod Texts
 pub mod States
 pub mod Outcomes
 pub mod Steps
+pub mod Runs
