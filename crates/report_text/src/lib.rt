@@ -3,7 +3,9 @@
 
 mod line;
 mod quoting;
+mod refusing;
 mod replies;
 mod writing;
 
+pub use refusing::write_refusal;
 pub use writing::write_run;

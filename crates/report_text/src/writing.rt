@@ -13,8 +13,8 @@ use crate::replies::push_reply;
 use cord_port::{Failed, Sink, write_all};
 use plain_cord::{Book, Reply, Script, Session};
 
-// Ends the line and hands it to the sink.
-fn write_line<K: Sink>(line: &mut Line, sink: &mut K) -> Result<(), Failed>
+/// Ends the line and hands it to the sink.
+pub fn write_line<K: Sink>(line: &mut Line, sink: &mut K) -> Result<(), Failed>
     requires { line_length line.old < LINE }
     ensures whole { OnOk result (Appends (K.held sink.old) (K.held sink.new) (line_of (line_bytes line.old))) }
     ensures kept { OnOk result (K.faults sink.new ≡ K.faults sink.old) }
