@@ -1,1 +1,4 @@
 pub mod Takes
+pub mod Sounds
+pub mod Shorts
+pub mod Says

@@ -1,1 +1,3 @@
 pub mod Runnable
+pub mod Endings
+pub mod Parts

@@ -1,0 +1,133 @@
+-- How the program ends, and what each ending says of the source and the sink.
+use Rattle.std.specs.Prelude.{◌≡◌, ℕ, ◌+◌, ◌≤◌, List, [], ◌∷◌, length, codes, Option}
+use Rattle.std.specs.Io.KnownBytes.{Appends, IsAtEnd}
+use Rattle.plain_cord.specs.declared.script.Script.{Script}
+use Rattle.plain_cord.specs.declared.reply.Book.{Book}
+use Rattle.plain_cord.specs.Runs.{IsPlainRun}
+use Rattle.cord_port.specs.Causes.{Rose}
+use Rattle.cord_port.specs.Texts.{Gave, AppendsPart}
+use Rattle.script_words.specs.Causes.{word_of_cause}
+use Rattle.script_reader.specs.declared.fault.ScriptError.{ScriptError}
+use Rattle.script_reader.specs.ScriptSpelling.{Spells}
+use Rattle.script_reader.specs.Faults.{IsFirstFault}
+use Rattle.report_text.specs.Outputs.{line_of, output_text, refusal_line}
+use Rattle.cord_sessions.specs.declared.ending.TheConstants.{MOST_SCRIPT}
+use Rattle.cord_sessions.specs.declared.ending.Ending.{Ending}
+use Rattle.cord_sessions.specs.declared.ending.Ending.TheVariants.{Done, Refused, Usage, ReadFault, WriteFault, Memory, TooLong}
+
+abbrev pub usage_line : List ℕ
+usage_line = line_of (codes "usage: cords run | cords check | cords load SEED SESSIONS COMMANDS")
+
+abbrev pub read_fault_line : List ℕ
+read_fault_line = line_of (codes "read fault")
+
+abbrev pub too_long_line : List ℕ
+too_long_line = line_of (codes "script too long")
+
+-- the words after the program's name ask for a run
+abbrev pub IsRun : List (List ℕ) → Type 0
+IsRun words = words ≡ codes "run" ∷ []
+
+-- the program's exit status
+abbrev pub status_of : Ending → ℕ
+status_of Done = 0
+status_of Refused = 1
+status_of Usage = 2
+status_of ReadFault = 3
+status_of WriteFault = 4
+status_of Memory = 5
+status_of TooLong = 6
+
+-- the source and the sink, before the call and after it: what is left and what is held, where it is told, how many
+-- bytes the source has given, and how often each has failed
+pub record Outside : Type 0 where
+  pub left : Option (List ℕ)
+  pub left_after : Option (List ℕ)
+  pub given : ℕ
+  pub given_after : ℕ
+  pub read_faults : ℕ
+  pub read_faults_after : ℕ
+  pub held : Option (List ℕ)
+  pub held_after : Option (List ℕ)
+  pub write_faults : ℕ
+  pub write_faults_after : ℕ
+
+-- the source was read to its end without a fault, and gave these bytes
+pub record IsRead (o : Outside) (bytes : List ℕ) : Type 0 where
+  pub gave : Gave o.left o.left_after o.given o.given_after bytes
+  pub end : IsAtEnd o.left_after
+  pub within : length bytes ≤ MOST_SCRIPT
+  pub faultless : o.read_faults_after ≡ o.read_faults
+
+-- a line was written: whole, or a beginning of it where the sink failed
+pub record Told (held held_after : Option (List ℕ)) (faults faults_after : ℕ) (line : List ℕ) : Type 0 where
+  pub part : AppendsPart held held_after line
+  pub whole : ¬ (Rose faults faults_after) → Appends held held_after line
+
+-- the source had a script, whose run gave these books
+pub record IsRunOf (o : Outside) (script : Script) (books : List Book) : Type 0 where
+  pub bytes : List ℕ
+  pub read : IsRead o bytes
+  pub spelled : Spells bytes script
+  pub run : IsPlainRun script.sessions books
+
+-- the script was run, and the whole text of its books written without a fault
+pub record IsDone (o : Outside) : Type 0 where
+  pub script : Script
+  pub books : List Book
+  pub ran : IsRunOf o script books
+  pub written : Appends o.held o.held_after (output_text script.sessions books)
+  pub faultless : o.write_faults_after ≡ o.write_faults
+
+-- the bytes are no script, and the line of the first fault was told
+pub record IsRefused (o : Outside) : Type 0 where
+  pub bytes : List ℕ
+  pub fault : ScriptError
+  pub read : IsRead o bytes
+  pub first : IsFirstFault bytes fault
+  pub no_script : (script : Script) → Spells bytes script → ⊥
+  pub told : Told o.held o.held_after o.write_faults o.write_faults_after (refusal_line fault.line (word_of_cause fault.cause))
+
+-- the script was run, and the sink failed in the text of its books
+pub record IsWriteFault (o : Outside) : Type 0 where
+  pub script : Script
+  pub books : List Book
+  pub ran : IsRunOf o script books
+  pub failed : Rose o.write_faults o.write_faults_after
+  pub part : AppendsPart o.held o.held_after (output_text script.sessions books)
+
+-- the source failed before its end
+pub record IsReadFault (o : Outside) : Type 0 where
+  pub failed : Rose o.read_faults o.read_faults_after
+  pub within : o.given_after ≤ o.given + MOST_SCRIPT
+  pub told : Told o.held o.held_after o.write_faults o.write_faults_after read_fault_line
+
+-- one byte more than the limit was read
+pub record IsTooLong (o : Outside) : Type 0 where
+  pub read : o.given_after ≡ o.given + (MOST_SCRIPT + 1)
+  pub faultless : o.read_faults_after ≡ o.read_faults
+  pub told : Told o.held o.held_after o.write_faults o.write_faults_after too_long_line
+
+-- memory ran out, and nothing was written
+pub record IsOutOfMemory (o : Outside) : Type 0 where
+  pub within : o.given_after ≤ o.given + MOST_SCRIPT
+  pub read_faultless : o.read_faults_after ≡ o.read_faults
+  pub held : o.held_after ≡ o.held
+  pub write_faultless : o.write_faults_after ≡ o.write_faults
+
+-- other words: nothing was read
+pub record IsUsage (o : Outside) : Type 0 where
+  pub left : o.left_after ≡ o.left
+  pub given : o.given_after ≡ o.given
+  pub faultless : o.read_faults_after ≡ o.read_faults
+  pub told : Told o.held o.held_after o.write_faults o.write_faults_after usage_line
+
+-- what an ending says
+abbrev pub Says : List (List ℕ) → Outside → Ending → Type 0
+Says words o Usage = ¬ (IsRun words) × IsUsage o
+Says words o Done = IsRun words × IsDone o
+Says words o Refused = IsRun words × IsRefused o
+Says words o ReadFault = IsRun words × IsReadFault o
+Says words o WriteFault = IsRun words × IsWriteFault o
+Says words o Memory = IsRun words × IsOutOfMemory o
+Says words o TooLong = IsRun words × IsTooLong o
