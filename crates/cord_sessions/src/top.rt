@@ -15,6 +15,7 @@ use std::sync::Wait;
 use std::thread::Threads;
 
 /// The program's exit status, and the boxes that were handed in, in their order.
+#[derive(Drop)]
 pub struct Finish {
     pub status: u8,
     pub returned: Vec<Box<dyn Releaser + Send>>,
