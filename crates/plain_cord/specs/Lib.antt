@@ -3,3 +3,5 @@ pub mod States
 pub mod Outcomes
 pub mod Steps
 pub mod Runs
+pub mod Places
+pub mod Orders

@@ -6,8 +6,10 @@ mod items;
 mod limits;
 mod reply;
 mod script;
+mod searching;
 
 pub use items::Items;
 pub use limits::{MOST_BYTES, MOST_SHOWN};
 pub use reply::{Book, NewMark, Reply};
 pub use script::{Command, Script, Session, Text};
+pub use searching::{compare_bytes, first_place};
