@@ -13,14 +13,9 @@ abbrev pub IsByteCommand : Command → Type 0
 IsByteCommand (commands.Let a text) = IsShortText text
 IsByteCommand (commands.Append a text) = IsShortText text
 IsByteCommand (commands.Prepend a text) = IsShortText text
-IsByteCommand (commands.Find a text) = ⊥
-IsByteCommand (commands.Starts a text) = ⊥
-IsByteCommand (commands.Ends a text) = ⊥
-IsByteCommand (commands.Copy a b) = ⊥
-IsByteCommand (commands.Sub a pos n b) = ⊥
-IsByteCommand (commands.Join a b) = ⊥
-IsByteCommand (commands.JoinFront a b) = ⊥
-IsByteCommand (commands.Compare a b) = ⊥
+IsByteCommand (commands.Find a text) = IsShortText text
+IsByteCommand (commands.Starts a text) = IsShortText text
+IsByteCommand (commands.Ends a text) = IsShortText text
 IsByteCommand (commands.Ext a text) = ⊥
 IsByteCommand (commands.Put a cell) = ⊥
 IsByteCommand (commands.Take cell a) = ⊥

@@ -1,3 +1,4 @@
 pub mod States
 pub mod Edits
 pub mod Commands
+pub mod Needles

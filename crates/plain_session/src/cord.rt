@@ -6,7 +6,7 @@ ghost use Rattle.plain_cord.specs.States.{plain, empty_cord};
 ghost use Rattle.plain_cord.specs.Outcomes.{edited, grown, cut_front, cut_back, with_sum};
 
 use crate::edit::Edit;
-use crate::pieces::push_repeated;
+use crate::pieces::{behind, front, push_repeated};
 use crate::replies::done;
 use plain_cord::{MOST_BYTES, Reply};
 use std::alloc::{AllocError, Global};
@@ -30,6 +30,36 @@ impl PlainCord {
     {
         let mut bytes = Vec::with_capacity(alloc, piece.len() * times as usize)?;
         push_repeated(&mut bytes, piece, times);
+        Ok(PlainCord { bytes, sum: None })
+    }
+
+    /// No bytes.
+    pub fn empty(alloc: Global) -> PlainCord
+        ensures { state_of result ≡ empty_cord }
+    {
+        PlainCord {
+            bytes: Vec::new(alloc),
+            sum: None,
+        }
+    }
+
+    /// A copy, sum included.
+    pub fn again(&self, alloc: Global) -> Result<PlainCord, AllocError>
+        ensures { IfOk result (λ cord. state_of cord ≡ state_of self.now) }
+    {
+        let bytes = Vec::from_slice(alloc, self.bytes.as_slice())?;
+        Ok(PlainCord {
+            bytes,
+            sum: self.sum,
+        })
+    }
+
+    /// At most `n` of the bytes behind the first `pos`, of which no sum is expected.
+    pub fn sub(&self, alloc: Global, pos: u64, n: u64) -> Result<PlainCord, AllocError>
+        ensures { IfOk result (λ cord. state_of cord ≡ plain (take n (drop pos (state_of self.now).bytes))) }
+    {
+        let rest = behind(self.bytes.as_slice(), pos);
+        let bytes = Vec::from_slice(alloc, front(rest, n))?;
         Ok(PlainCord { bytes, sum: None })
     }
 
@@ -83,6 +113,24 @@ impl PlainCord {
         self.bytes.reserve(added)?;
         push_repeated(&mut self.bytes, piece, times);
         self.bytes.rotate_right(added);
+        self.sum = None;
+        Ok(done())
+    }
+
+    // Adds the cord's own bytes behind them.
+    fn double(&mut self) -> Result<Reply, AllocError>
+        ensures ok { IfOk result (λ reply. Leaves (grown (state_of self.old) ((state_of self.old).bytes ++ (state_of self.old).bytes)) (state_of self.new) reply) }
+        ensures err { OnErr result (state_of self.new ≡ state_of self.old) }
+    {
+        let size = self.bytes.len();
+        let asked = size as u64 * 2;
+        if asked > MOST_BYTES {
+            return Ok(Reply::Length { asked });
+        }
+        if size == 0 {
+            return Ok(done());
+        }
+        self.bytes.extend_from_within(0..size)?;
         self.sum = None;
         Ok(done())
     }
@@ -144,6 +192,7 @@ impl PlainCord {
             Edit::Clear => Ok(self.clear()),
             Edit::Append(piece, times) => self.append(piece, times),
             Edit::Prepend(piece, times) => self.prepend(piece, times),
+            Edit::Double => self.double(),
             Edit::CutFront(n) => Ok(self.cut_front(n)),
             Edit::CutBack(n) => Ok(self.cut_back(n)),
             Edit::SetSum(value) => Ok(self.set_sum(value)),

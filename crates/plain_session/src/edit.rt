@@ -6,6 +6,7 @@ pub enum Edit<'b> {
     Clear,
     Append(&'b [u8], u32),
     Prepend(&'b [u8], u32),
+    Double,
     CutFront(u64),
     CutBack(u64),
     SetSum(u32),

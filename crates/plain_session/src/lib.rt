@@ -4,7 +4,9 @@
 
 mod cord;
 mod edit;
+mod joining;
 mod names;
+mod needle;
 mod pieces;
 mod queries;
 mod replies;

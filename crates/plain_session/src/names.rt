@@ -1,5 +1,5 @@
 //! The names of a session.
-ghost use Rattle.std.specs.Prelude.{◌≡◌, IfOk, OnOk, OnErr, List};
+ghost use Rattle.std.specs.Prelude.{◌≡◌, IsSome, IfNone, IfOk, OnOk, OnErr, List};
 ghost use Rattle.std.specs.Option.{option_map};
 ghost use Rattle.plain_cord.specs.States.{SameNames, no_names, with_name};
 ghost use Rattle.plain_cord.specs.Steps.{IsOutcome};
@@ -12,6 +12,7 @@ use crate::replies::unset;
 use plain_cord::Reply;
 use std::alloc::{AllocError, Global};
 use std::collections::HashMap;
+use std::mem;
 
 /// The names that were set, and their cords. The keys are borrowed from the script.
 #[derive(Drop)]
@@ -55,6 +56,18 @@ impl<'a> Names<'a> {
         match self.cords.get_mut(name) {
             None => unset(self.alloc, name),
             Some(cord) => cord.change(edit),
+        }
+    }
+
+    // Puts a cord in the place of the one that a name has, if it was ever set.
+    pub fn exchange(&mut self, name: &[u8], cord: PlainCord) -> Option<PlainCord>
+        ensures found { option_map state_of result ≡ environment_of self.old name.now }
+        ensures set { IsSome result → SameNames (environment_of self.new) (with_name (environment_of self.old) name.now (state_of cord)) }
+        ensures unset { IfNone result (SameNames (environment_of self.new) (environment_of self.old)) }
+    {
+        match self.cords.get_mut(name) {
+            None => None,
+            Some(place) => Some(mem::replace(place, cord)),
         }
     }
 }

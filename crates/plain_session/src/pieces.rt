@@ -1,5 +1,5 @@
-//! A piece of bytes that stands several times.
-ghost use Rattle.std.specs.Prelude.{◌≡◌, ℕ, ◌+◌, ◌*◌, ◌^◌, ◌<◌, ◌≤◌, ◌++◌, ◌∷◌, [], length, replicate, vec_len, vec_capacity, OnOk, OnErr};
+//! Parts of byte strings, and a piece that stands several times.
+ghost use Rattle.std.specs.Prelude.{◌≡◌, ℕ, ◌+◌, ◌*◌, ◌^◌, ◌<◌, ◌≤◌, ◌++◌, ◌∷◌, [], length, replicate, vec_len, vec_capacity, take, drop};
 ghost use Rattle.plain_cord.specs.Texts.{repeated};
 
 /// Adds the piece so many times, where there is room for it.
@@ -36,4 +36,26 @@ fn push_copies(bytes: &mut Vec<u8>, piece: &[u8], times: u32)
             unreachable!();
         }
     }
+}
+
+/// The bytes behind the first `n`, if there are so many.
+pub fn behind(bytes: &[u8], n: u64) -> &[u8]
+    ensures { result.now ≡ drop n bytes.now }
+{
+    let size = bytes.len() as u64;
+    if n >= size {
+        return &[];
+    }
+    &bytes[n as usize..]
+}
+
+/// The first `n` bytes, or all, if there are fewer.
+pub fn front(bytes: &[u8], n: u64) -> &[u8]
+    ensures { result.now ≡ take n bytes.now }
+{
+    let size = bytes.len() as u64;
+    if n >= size {
+        return bytes;
+    }
+    &bytes[..n as usize]
 }
