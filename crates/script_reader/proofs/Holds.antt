@@ -29,7 +29,7 @@ use Rattle.script_reader.specs.Spelling.{setting_verb, verb_for}
 use Rattle.script_reader.specs.ScriptSpelling.{session_items, script_items, NoneIsCalled, NamesDiffer, commands_in, is_ready_item, Spells, IsWritten, SpellsLines}
 use Rattle.script_reader.specs.Faults.{accepted, run}
 use Rattle.script_reader.proofs.ScriptLines.{written_lines, script_lines_found}
-use Rattle.script_reader.proofs.SettingLaws.{AreOnce, NumbersAre, chosen_once, once_given}
+use Rattle.script_reader.proofs.SettingLaws.{AreOnce, chosen_once, once_given}
 use Rattle.script_reader.proofs.Runs.{between, inside, setting_placed}
 
 abbrev opened : Option Session → List Item

@@ -1,5 +1,5 @@
 -- The items of a script are run: what is spelled is read.
-use Rattle.std.proofs.Common.{◌≡◌, ◌≢◌, ℕ, suc, ◌+◌, ◌<◌, ◌≤◌, Bool, true, false, cond, eqb, List, [], ◌∷◌, ◌++◌, length, map, Option, Some, None, Result, Ok, Err, refl, sym, ap, ◌∙◌, subst, arith, inl, inr, append_assoc, length-append}
+use Rattle.std.proofs.Common.{◌≡◌, ◌≢◌, ℕ, suc, ◌+◌, ◌<◌, ◌≤◌, Bool, true, false, cond, eqb, List, [], ◌∷◌, ◌++◌, length, map, Some, None, Result, Ok, Err, refl, sym, ap, ◌∙◌, subst, arith, inl, inr, append_assoc, length-append}
 use Rattle.std.specs.Prelude.{◌&&◌, ◌||◌, ◌⊎◌, is_some, codes}
 use Rattle.std.specs.List.{list_any, list_all, flat_map}
 use Rattle.std.specs.Str.{bytes_eq}
@@ -25,7 +25,7 @@ use Rattle.script_reader.specs.declared.progress.Progress.{Progress}
 use Rattle.script_reader.specs.Built.{is_ready, has_many_sessions, is_fresh, is_allowed}
 use Rattle.script_reader.specs.Scripts.{is_placed, is_called, chosen, entered, script_from, lines_from, start, headed, read_of}
 use Rattle.script_reader.specs.Spelling.{setting_verb, command_verb, verb_for}
-use Rattle.script_reader.specs.ScriptSpelling.{session_items, script_items, AreGiven, NoneIsCalled, NamesDiffer, commands_in, is_ready_item, Spells}
+use Rattle.script_reader.specs.ScriptSpelling.{session_items, script_items, NoneIsCalled, NamesDiffer, commands_in, is_ready_item, Spells}
 use Rattle.script_reader.specs.Faults.{accepted, run}
 use Rattle.script_reader.proofs.ScriptLines.{lines_again, script_lines_again}
 use Rattle.script_reader.proofs.SettingLaws.{Goes, chosen_goes, goes_nowhere, NumbersAre, numbers_end}

@@ -1,9 +1,7 @@
 -- Options in any order, each at most once.
-use Rattle.std.proofs.Common.{◌≡◌, ℕ, List, [], ◌∷◌, ◌++◌, Option, Some, None, Result, Ok, Err, refl, sym, ap, ◌∙◌, subst, inl, inr}
-use Rattle.std.specs.Prelude.{◌⊎◌, unwrap_or}
+use Rattle.std.proofs.Common.{◌≡◌, ℕ, List, [], ◌∷◌, ◌++◌, Option, Some, None, Ok, refl, sym, ap, ◌∙◌, subst, inl, inr}
+use Rattle.std.specs.Prelude.{unwrap_or}
 use Rattle.std.proofs.lemmas.List.{append-nil}
-use Rattle.script_words.specs.declared.fault.Cause.{Cause}
-use Rattle.script_words.specs.declared.fault.Cause.TheVariants as causes
 use Rattle.plain_cord.specs.declared.script.Script.{Script}
 use Rattle.script_reader.specs.declared.progress.Setting.{Setting}
 use Rattle.script_reader.specs.declared.progress.Setting.TheVariants as settings

@@ -1,5 +1,5 @@
 -- The limits within which each script is that was read.
-use Rattle.std.specs.Prelude.{◌≡◌, ℕ, ◌*◌, ◌^◌, ◌<◌, ◌≤◌, true, List, length}
+use Rattle.std.specs.Prelude.{◌≡◌, ℕ, ◌*◌, ◌^◌, ◌<◌, ◌≤◌, true, length}
 use Rattle.std.specs.List.{All}
 use Rattle.plain_cord.specs.declared.script.Text.{Text}
 use Rattle.plain_cord.specs.declared.script.Command.{Command}

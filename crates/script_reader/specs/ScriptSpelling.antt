@@ -1,4 +1,5 @@
 -- How a script is spelled, apart from any reading.
+-- It takes from the reading side only which lines are ignored, and which words are built.
 use Rattle.std.specs.Prelude.{◌≡◌, ◌≢◌, ℕ, ◌+◌, ◌≤◌, ◌⊎◌, Bool, true, List, [], ◌∷◌, ◌++◌, length, map, Option, Some, None, codes}
 use Rattle.std.specs.List.{list_all, flat_map}
 use Rattle.plain_cord.specs.declared.script.Session.{Session}

@@ -62,6 +62,7 @@ SaysName rest a = (rest ≡ Some a) × IsName a
 abbrev pub SaysNumber : ℕ → ℕ → Option (List ℕ) → ℕ → Type 0
 SaysNumber least most rest n = (word : List ℕ) × (rest ≡ Some word) × SpellsNumber word n × (least ≤ n) × (n ≤ most)
 
+-- the text begins behind the name and one space: all the rest of the line is its part
 abbrev pub SaysNameText : ℕ → Option (List ℕ) → List ℕ → Text → Type 0
 SaysNameText least rest a text = (part : List ℕ) × (rest ≡ Some (a ++ 32 ∷ part)) × IsName a × SpellsText least part text
 

@@ -159,7 +159,8 @@ fn read_all(alloc: Global, bytes: &[u8]) -> Result<Script, ReadRefused>
     read_lines(alloc, rest)
 }
 
-/// The script that the bytes spell, or its first fault.
+/// The script that the bytes spell, or its first fault: its line, counted from 1, and its cause.
+/// Lines are checked from the first, and in a line the checks go in the order of the causes, words from left to right.
 pub fn read_script(alloc: Global, bytes: &[u8]) -> Result<Script, ReadRefused>
     requires { length bytes.now ≤ 16777216 }
     // What is read is spelled so.

@@ -118,6 +118,8 @@ fn words_stand_between_single_spaces(rt: HostRuntime) {
         };
         assert_eq!(rt; length, want);
     }
+    let (first, behind) = first_part(b"ab;c", b';');
+    assert!(rt; first.len() == 2 && behind.is_some());
     assert!(rt; take_last_word(Some(b"ab")).is_ok());
     assert!(rt; take_last_word(Some(b"ab ")).is_err());
     assert!(rt; take_part(Some(b" ")).is_ok());
