@@ -11,6 +11,7 @@ mod memory_source;
 mod reading;
 mod refusals;
 mod releaser;
+mod releaser_box;
 mod sink;
 mod source;
 mod std_sink;

@@ -1,3 +1,5 @@
+ghost use Rattle.std.specs.Prelude.{◌≡◌};
+
 use super::*;
 use std::io::Cursor;
 use std::test::Fail;
@@ -91,5 +93,22 @@ fn releasers_count_and_keep_lengths(rt: HostRuntime) -> Result<(), Fail> {
     assert_eq!(rt; log.lengths(), [5u64, 6].as_slice());
     assert_eq!(rt; (log.calls(), log.latest()), (3, Some(7)));
     assert_eq!(rt; (count.calls(), count.latest()), (2, Some(7)));
+    Ok(())
+}
+
+// How often a releaser of any type was called.
+fn calls_after_two<B: Releaser>(mut releaser: B) -> u64
+    requires { B.calls_of releaser ≡ 0 }
+{
+    releaser.release(8);
+    releaser.release(9);
+    releaser.calls()
+}
+
+#[test]
+fn boxed_releaser_serves_as_one(rt: HostRuntime) -> Result<(), Fail> {
+    let boxed: Box<dyn Releaser + Send> = Box::new(rt.alloc(), CountReleaser::new())?;
+    assert_eq!(rt; calls_after_two(boxed), 2);
+    assert_eq!(rt; calls_after_two(CountReleaser::new()), 2);
     Ok(())
 }

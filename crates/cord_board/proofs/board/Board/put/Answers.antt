@@ -1,0 +1,42 @@
+use Rattle.std.proofs.Common.{rules, arith, ◌≡◌, ℕ, ◌+◌, ◌<◌, length, Some, None, ap, ◌∙◌, sym, subst}
+use Rattle.turn_desk.specs.Passes.{desk_view}
+use Rattle.cord_board.specs.declared.entry.Act.TheVariants.{Put}
+use Rattle.cord_board.specs.Log.{deed, Acts}
+use Rattle.cord_board.specs.Views.{Did}
+use Rattle.cord_board.proofs.Turns.{found_cells, found_room, owes, tells, acted_pass}
+use Rattle.cord_board.proofs.board.Board.put.Goals as goal
+
+pub put-was-requires-clause-cell : goal.put-was-requires-clause-cell
+put-was-requires-clause-cell g c =
+    let is = c.value.ensures.value ∙ c.enter-turn.ensures.turn.1 in
+    let cells = ap (λ z. length z.cells.items) is ∙ found_cells g.C.BoardItem.length_of _ _ _ c.enter-turn.ensures.agreed in
+    search rules
+
+pub put-was-requires-clause-room : goal.put-was-requires-clause-room
+put-was-requires-clause-room g c = subst (λ z. Rattle.std.proofs.Common.vec_len z.history < Rattle.std.proofs.Common.vec_capacity z.history) (sym (c.value.ensures.value ∙ c.enter-turn.ensures.turn.1)) (found_room g.C.BoardItem.length_of _ _ _ c.enter-turn.ensures.agreed c.requires.session.1)
+
+pub exit-requires-clause-leaves : goal.exit-requires-clause-leaves
+exit-requires-clause-leaves g c =
+    let p = c.args.pass.now in
+    let d = deed p.session (p.made + 1) Put c.args.cell (Some c.args.item) c.put-was.result in
+    let acts = subst (λ z. Acts g.C.BoardItem.length_of z c.put-was.new.self d) (c.value.ensures.value ∙ c.enter-turn.ensures.turn.1) c.put-was.ensures in
+    owes g.C.BoardItem.length_of 0 _ _ (desk_view p.pass) _ d c.enter-turn.ensures.pass.1 c.requires.session p.of_session (ap (λ n. n + 1) p.counted) acts
+
+pub invariant_of-pass : goal.invariant_of-pass
+invariant_of-pass g c =
+    let p = c.args.pass.now in
+    let d = deed p.session (p.made + 1) Put c.args.cell (Some c.args.item) c.put-was.result in
+    let acts = subst (λ z. Acts g.C.BoardItem.length_of z c.put-was.new.self d) (c.value.ensures.value ∙ c.enter-turn.ensures.turn.1) c.put-was.ensures in
+    let cells = found_cells g.C.BoardItem.length_of _ _ _ c.enter-turn.ensures.agreed in
+    let did = tells g.C.BoardItem.length_of 0 _ _ (desk_view p.pass) _ _ d c.enter-turn.ensures.pass.1 c.requires.session (omega arith) acts c.exit.ensures.left in
+    let k = acted_pass (desk_view p.pass) (desk_view c.exit.new.pass) d p.session p.made did c.requires.session p.of_session p.counted p.few in
+    record { of_session = k.0; counted = k.1; few = k.2 }
+
+pub returns-clause-did : goal.returns-clause-did
+returns-clause-did g c =
+    let p = c.args.pass.now in
+    let d = deed p.session (p.made + 1) Put c.args.cell (Some c.args.item) c.put-was.result in
+    let acts = subst (λ z. Acts g.C.BoardItem.length_of z c.put-was.new.self d) (c.value.ensures.value ∙ c.enter-turn.ensures.turn.1) c.put-was.ensures in
+    let cells = found_cells g.C.BoardItem.length_of _ _ _ c.enter-turn.ensures.agreed in
+    let did = tells g.C.BoardItem.length_of 0 _ _ (desk_view p.pass) _ _ d c.enter-turn.ensures.pass.1 c.requires.session (omega arith) acts c.exit.ensures.left in
+    subst (λ (z : ℕ × ℕ). Did (desk_view p.pass) (desk_view c.exit.new.pass) (deed z.0 z.1 Put c.args.cell (Some c.args.item) c.put-was.result)) (λ i. (p.of_session i, p.counted i + 1)) did

@@ -1,0 +1,22 @@
+//! The board: 64 cells that sessions share, and the history of what they did to them.
+#![tactic(auto)]
+
+mod actions;
+mod board;
+mod cells;
+mod entry;
+mod item;
+mod passes;
+mod rule;
+mod start;
+#[cfg(test)]
+mod tests;
+mod view;
+
+pub use board::Board;
+pub use cells::Cells;
+pub use entry::{Act, Entry};
+pub use item::{BoardItem, Twin};
+pub use passes::BoardPass;
+pub use rule::BoardRule;
+pub use view::{BoardView, Deed};

@@ -1,0 +1,43 @@
+-- What is seen of a desk and its passes.
+use Rattle.std.specs.Prelude.{◌≡◌, ◌≢◌, ℕ, ◌<◌, List, [], ◌∷◌, map, Option, Some, None}
+use mathlib.Core.Option.{some}
+use lib.ListN.{get_elem?}
+use Rattle.atomic_table.specs.declared.shared.Seat.{Seat}
+use Rattle.turn_desk.specs.declared.desk.Desk.{Desk}
+use Rattle.turn_desk.specs.declared.knowledge.Knowledge.{Knowledge}
+use Rattle.turn_desk.specs.declared.knowledge.Held.TheVariants.{Nothing, Turn}
+use Rattle.turn_desk.specs.Spots.{Spot, out, at_home}
+
+-- how many values a desk has
+abbrev pub desk_places : {T X V A : Type 0} → Desk T X V A → ℕ
+desk_places d = d.table.shared.table_id.slots
+
+module _ {X V : Type 0} where
+  -- the pass is of this desk
+  abbrev pub IsOf : {T A : Type 0} → Desk T X V A → Seat (Option X) (Knowledge X V) → Type 0
+  IsOf d p = p.table_id ≡ d.table.shared.table_id
+
+  -- what the rule sees of a pass
+  abbrev pub desk_view : Seat (Option X) (Knowledge X V) → V
+  desk_view p = p.me.0.view
+
+  -- the same pass, before and after
+  abbrev pub IsSamePass : Seat (Option X) (Knowledge X V) → Seat (Option X) (Knowledge X V) → Type 0
+  IsSamePass p q = (q.table_id ≡ p.table_id) × (q.id ≡ p.id)
+
+  -- a pass that has no turn
+  abbrev pub IsIdle : Seat (Option X) (Knowledge X V) → Type 0
+  IsIdle p = (p.me.0.held ≡ Nothing) × (p.me.1 ≡ [])
+
+  -- a pass that has the turn of place l, where x was taken out
+  abbrev pub HasTurn : Seat (Option X) (Knowledge X V) → ℕ → X → Type 0
+  HasTurn p l x = (l < p.table_id.slots) × (p.me.0.held ≡ Turn l x) × (p.me.1 ≡ (l, None) ∷ [])
+
+  -- the last state: these values were at home, and each other one was out with a pass other than this
+  pub record Ended (agrees : List (Spot X) → List (Option V) → Type 0) (p : Seat (Option X) (Knowledge X V)) (values : List (Option X)) : Type 0 where
+    pub spots : List (Spot X)
+    pub views : List (Option V)
+    pub agreed : agrees spots views
+    pub mine : get_elem? views p.id ≡ some (Some (desk_view p))
+    pub given : values ≡ map at_home spots
+    pub others : (l : ℕ) (x : X) → get_elem? spots l ≡ some (out x) → (by : ℕ) × (v : V) × (by ≢ p.id) × (get_elem? views by ≡ some (Some v))
