@@ -12,7 +12,11 @@ fn is_ready_verb(verb: Verb) -> bool
 {
     match verb {
         Verb::Session | Verb::End => true,
-        Verb::Let | Verb::Append | Verb::Size | Verb::Print => true,
+        Verb::Let | Verb::Copy | Verb::Sub | Verb::Clear => true,
+        Verb::Append | Verb::Prepend | Verb::Join | Verb::JoinFront => true,
+        Verb::CutFront | Verb::CutBack | Verb::SetSum | Verb::Sum => true,
+        Verb::Size | Verb::Print | Verb::At | Verb::Find => true,
+        Verb::Compare | Verb::Starts | Verb::Ends => true,
         _ => false,
     }
 }
