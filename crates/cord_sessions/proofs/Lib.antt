@@ -2,3 +2,4 @@ pub mod Takes
 pub mod Sounds
 pub mod Shorts
 pub mod Says
+pub mod Counts

@@ -1,5 +1,6 @@
 -- How the program ends, and what each ending says of the source and the sink.
-use Rattle.std.specs.Prelude.{◌≡◌, ℕ, ◌+◌, ◌≤◌, List, [], ◌∷◌, length, codes, Option}
+use Rattle.std.specs.Prelude.{◌≡◌, ℕ, ◌+◌, ◌≤◌, List, length, codes, Option}
+use Rattle.std.specs.List.{sum_by}
 use Rattle.std.specs.Io.KnownBytes.{Appends, IsAtEnd}
 use Rattle.plain_cord.specs.declared.script.Script.{Script}
 use Rattle.plain_cord.specs.declared.reply.Book.{Book}
@@ -11,6 +12,10 @@ use Rattle.script_reader.specs.declared.fault.ScriptError.{ScriptError}
 use Rattle.script_reader.specs.ScriptSpelling.{Spells}
 use Rattle.script_reader.specs.Faults.{IsFirstFault}
 use Rattle.report_text.specs.Outputs.{line_of, output_text, refusal_line}
+use Rattle.report_text.specs.Summaries.{summary_line}
+use Rattle.cord_sessions.specs.declared.asked.Asked.{Asked}
+use Rattle.cord_sessions.specs.declared.asked.Asked.TheVariants.{Run, Check}
+use Rattle.cord_sessions.specs.Asks.{Asks}
 use Rattle.cord_sessions.specs.declared.ending.TheConstants.{MOST_SCRIPT}
 use Rattle.cord_sessions.specs.declared.ending.Ending.{Ending}
 use Rattle.cord_sessions.specs.declared.ending.Ending.TheVariants.{Done, Refused, Usage, ReadFault, WriteFault, Memory, TooLong}
@@ -21,12 +26,12 @@ usage_line = line_of (codes "usage: cords run | cords check | cords load SEED SE
 abbrev pub read_fault_line : List ℕ
 read_fault_line = line_of (codes "read fault")
 
+-- how many sessions a script has, and how many commands
+abbrev pub check_line : Script → List ℕ
+check_line script = summary_line (length script.sessions) (sum_by (λ session. length session.commands) script.sessions)
+
 abbrev pub too_long_line : List ℕ
 too_long_line = line_of (codes "script too long")
-
--- the words after the program's name ask for a run
-abbrev pub IsRun : List (List ℕ) → Type 0
-IsRun words = words ≡ codes "run" ∷ []
 
 -- the program's exit status
 abbrev pub status_of : Ending → ℕ
@@ -72,12 +77,38 @@ pub record IsRunOf (o : Outside) (script : Script) (books : List Book) : Type 0 
   pub run : IsPlainRun script.sessions books
 
 -- the script was run, and the whole text of its books written without a fault
-pub record IsDone (o : Outside) : Type 0 where
+pub record IsRunDone (o : Outside) : Type 0 where
   pub script : Script
   pub books : List Book
   pub ran : IsRunOf o script books
   pub written : Appends o.held o.held_after (output_text script.sessions books)
   pub faultless : o.write_faults_after ≡ o.write_faults
+
+-- the script was run, and the sink failed in the text of its books
+pub record IsRunUnwritten (o : Outside) : Type 0 where
+  pub script : Script
+  pub books : List Book
+  pub ran : IsRunOf o script books
+  pub failed : Rose o.write_faults o.write_faults_after
+  pub part : AppendsPart o.held o.held_after (output_text script.sessions books)
+
+-- the bytes spell a script, and the line of how much it has was written without a fault
+pub record IsCheckDone (o : Outside) : Type 0 where
+  pub bytes : List ℕ
+  pub script : Script
+  pub read : IsRead o bytes
+  pub spelled : Spells bytes script
+  pub written : Appends o.held o.held_after (check_line script)
+  pub faultless : o.write_faults_after ≡ o.write_faults
+
+-- the bytes spell a script, and the sink failed in that line
+pub record IsCheckUnwritten (o : Outside) : Type 0 where
+  pub bytes : List ℕ
+  pub script : Script
+  pub read : IsRead o bytes
+  pub spelled : Spells bytes script
+  pub failed : Rose o.write_faults o.write_faults_after
+  pub part : AppendsPart o.held o.held_after (check_line script)
 
 -- the bytes are no script, and the line of the first fault was told
 pub record IsRefused (o : Outside) : Type 0 where
@@ -87,14 +118,6 @@ pub record IsRefused (o : Outside) : Type 0 where
   pub first : IsFirstFault bytes fault
   pub no_script : (script : Script) → Spells bytes script → ⊥
   pub told : Told o.held o.held_after o.write_faults o.write_faults_after (refusal_line fault.line (word_of_cause fault.cause))
-
--- the script was run, and the sink failed in the text of its books
-pub record IsWriteFault (o : Outside) : Type 0 where
-  pub script : Script
-  pub books : List Book
-  pub ran : IsRunOf o script books
-  pub failed : Rose o.write_faults o.write_faults_after
-  pub part : AppendsPart o.held o.held_after (output_text script.sessions books)
 
 -- the source failed before its end
 pub record IsReadFault (o : Outside) : Type 0 where
@@ -115,19 +138,43 @@ pub record IsOutOfMemory (o : Outside) : Type 0 where
   pub held : o.held_after ≡ o.held
   pub write_faultless : o.write_faults_after ≡ o.write_faults
 
--- other words: nothing was read
+-- the words are no command: nothing was read
 pub record IsUsage (o : Outside) : Type 0 where
   pub left : o.left_after ≡ o.left
   pub given : o.given_after ≡ o.given
   pub faultless : o.read_faults_after ≡ o.read_faults
   pub told : Told o.held o.held_after o.write_faults o.write_faults_after usage_line
 
--- what an ending says
+abbrev pub IsDone : Asked → Outside → Type 0
+IsDone Run o = IsRunDone o
+IsDone Check o = IsCheckDone o
+
+abbrev pub IsUnwritten : Asked → Outside → Type 0
+IsUnwritten Run o = IsRunUnwritten o
+IsUnwritten Check o = IsCheckUnwritten o
+
+-- what the ending of a command says
+abbrev pub SaysOf : Asked → Outside → Ending → Type 0
+SaysOf command o Done = IsDone command o
+SaysOf command o Refused = IsRefused o
+SaysOf command o Usage = ⊥
+SaysOf command o ReadFault = IsReadFault o
+SaysOf command o WriteFault = IsUnwritten command o
+SaysOf command o Memory = IsOutOfMemory o
+SaysOf command o TooLong = IsTooLong o
+
+-- the words ask for a command, of which the ending says this
+pub record SaysOfAsked (words : List (List ℕ)) (o : Outside) (ending : Ending) : Type 0 where
+  pub command : Asked
+  pub asked : Asks words command
+  pub says : SaysOf command o ending
+
+-- what the ending of the whole program says: either the words are no command, or it is the ending of the one they are
 abbrev pub Says : List (List ℕ) → Outside → Ending → Type 0
-Says words o Usage = ¬ (IsRun words) × IsUsage o
-Says words o Done = IsRun words × IsDone o
-Says words o Refused = IsRun words × IsRefused o
-Says words o ReadFault = IsRun words × IsReadFault o
-Says words o WriteFault = IsRun words × IsWriteFault o
-Says words o Memory = IsRun words × IsOutOfMemory o
-Says words o TooLong = IsRun words × IsTooLong o
+Says words o Usage = ((command : Asked) → ¬ (Asks words command)) × IsUsage o
+Says words o Done = SaysOfAsked words o Done
+Says words o Refused = SaysOfAsked words o Refused
+Says words o ReadFault = SaysOfAsked words o ReadFault
+Says words o WriteFault = SaysOfAsked words o WriteFault
+Says words o Memory = SaysOfAsked words o Memory
+Says words o TooLong = SaysOfAsked words o TooLong

@@ -1,3 +1,4 @@
+pub mod Asks
 pub mod Runnable
 pub mod Endings
 pub mod Parts

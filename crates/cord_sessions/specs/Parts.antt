@@ -4,6 +4,8 @@ use Rattle.std.specs.Io.KnownBytes.{Appends}
 use Rattle.plain_cord.specs.declared.script.Script.{Script}
 use Rattle.plain_cord.specs.declared.reply.Book.{Book}
 use Rattle.plain_cord.specs.Runs.{IsPlainRun}
+use Rattle.cord_port.specs.declared.reading.ReadRefused.{ReadRefused}
+use Rattle.cord_port.specs.declared.reading.ReadRefused.TheVariants as refusals
 use Rattle.cord_port.specs.Causes.{Rose}
 use Rattle.cord_port.specs.Texts.{AppendsPart}
 use Rattle.script_words.specs.Causes.{word_of_cause}
@@ -13,7 +15,9 @@ use Rattle.script_reader.specs.Faults.{IsFirstFault}
 use Rattle.report_text.specs.Outputs.{output_text, refusal_line}
 use Rattle.cord_sessions.specs.declared.ending.Ending.{Ending}
 use Rattle.cord_sessions.specs.declared.ending.Ending.TheVariants.{Done, Refused, Usage, ReadFault, WriteFault, Memory, TooLong}
-use Rattle.cord_sessions.specs.Endings.{Told}
+use Rattle.cord_sessions.specs.declared.asked.Asked.{Asked}
+use Rattle.cord_sessions.specs.declared.asked.Asked.TheVariants.{Run, Check}
+use Rattle.cord_sessions.specs.Endings.{Told, check_line, read_fault_line, too_long_line}
 
 -- these books are those of a run of the script that the bytes spell
 pub record IsRunOfBytes (bytes : List ℕ) (script : Script) (books : List Book) : Type 0 where
@@ -39,11 +43,39 @@ pub record TellsFault (bytes : List ℕ) (held held_after : Option (List ℕ)) (
   pub first : IsFirstFault bytes fault
   pub told : Told held held_after faults faults_after (refusal_line fault.line (word_of_cause fault.cause))
 
-abbrev pub SaysOfBytes : List ℕ → Option (List ℕ) → Option (List ℕ) → ℕ → ℕ → Ending → Type 0
-SaysOfBytes bytes held held_after faults faults_after Done = WritesAll bytes held held_after faults faults_after
-SaysOfBytes bytes held held_after faults faults_after Refused = TellsFault bytes held held_after faults faults_after
-SaysOfBytes bytes held held_after faults faults_after WriteFault = FailsToWrite bytes held held_after faults faults_after
-SaysOfBytes bytes held held_after faults faults_after Memory = (held_after ≡ held) × (faults_after ≡ faults)
-SaysOfBytes bytes held held_after faults faults_after Usage = ⊥
-SaysOfBytes bytes held held_after faults faults_after ReadFault = ⊥
-SaysOfBytes bytes held held_after faults faults_after TooLong = ⊥
+-- the bytes spell a script, and its line was written without a fault
+pub record ChecksAll (bytes : List ℕ) (held held_after : Option (List ℕ)) (faults faults_after : ℕ) : Type 0 where
+  pub script : Script
+  pub spelled : Spells bytes script
+  pub written : Appends held held_after (check_line script)
+  pub faultless : faults_after ≡ faults
+
+-- the bytes spell a script, and the sink failed in its line
+pub record FailsToCheck (bytes : List ℕ) (held held_after : Option (List ℕ)) (faults faults_after : ℕ) : Type 0 where
+  pub script : Script
+  pub spelled : Spells bytes script
+  pub failed : Rose faults faults_after
+  pub part : AppendsPart held held_after (check_line script)
+
+abbrev pub IsDoneOfBytes : Asked → List ℕ → Option (List ℕ) → Option (List ℕ) → ℕ → ℕ → Type 0
+IsDoneOfBytes Run bytes held held_after faults faults_after = WritesAll bytes held held_after faults faults_after
+IsDoneOfBytes Check bytes held held_after faults faults_after = ChecksAll bytes held held_after faults faults_after
+
+abbrev pub IsUnwrittenOfBytes : Asked → List ℕ → Option (List ℕ) → Option (List ℕ) → ℕ → ℕ → Type 0
+IsUnwrittenOfBytes Run bytes held held_after faults faults_after = FailsToWrite bytes held held_after faults faults_after
+IsUnwrittenOfBytes Check bytes held held_after faults faults_after = FailsToCheck bytes held held_after faults faults_after
+
+abbrev pub SaysOfBytes : Asked → List ℕ → Option (List ℕ) → Option (List ℕ) → ℕ → ℕ → Ending → Type 0
+SaysOfBytes command bytes held held_after faults faults_after Done = IsDoneOfBytes command bytes held held_after faults faults_after
+SaysOfBytes command bytes held held_after faults faults_after Refused = TellsFault bytes held held_after faults faults_after
+SaysOfBytes command bytes held held_after faults faults_after WriteFault = IsUnwrittenOfBytes command bytes held held_after faults faults_after
+SaysOfBytes command bytes held held_after faults faults_after Memory = (held_after ≡ held) × (faults_after ≡ faults)
+SaysOfBytes command bytes held held_after faults faults_after Usage = ⊥
+SaysOfBytes command bytes held held_after faults faults_after ReadFault = ⊥
+SaysOfBytes command bytes held held_after faults faults_after TooLong = ⊥
+
+-- what is told where the bytes of the source were not read
+abbrev pub TellsUnread : ReadRefused → Option (List ℕ) → Option (List ℕ) → ℕ → ℕ → Ending → Type 0
+TellsUnread refusals.Memory held held_after faults faults_after ending = (ending ≡ Memory) × (held_after ≡ held) × (faults_after ≡ faults)
+TellsUnread refusals.Fault held held_after faults faults_after ending = (ending ≡ ReadFault) × Told held held_after faults faults_after read_fault_line
+TellsUnread refusals.TooLong held held_after faults faults_after ending = (ending ≡ TooLong) × Told held held_after faults faults_after too_long_line

@@ -1,14 +1,14 @@
 //! Runs scripts: the top call, from a source of bytes to a sink.
 #![tactic(auto)]
 
+mod asked;
 mod ending;
 mod running;
 mod script_run;
 mod session;
 mod top;
-mod words;
 
 pub use ending::{Ending, MOST_SCRIPT};
 pub use running::{Run, RunRefused, run_script};
 pub use session::{SessionRefused, run_session};
-pub use top::{Finish, run_program};
+pub use top::{Finish, check_script, run_program};

@@ -1,14 +1,13 @@
 //! The top call.
 ghost use Rattle.std.specs.Prelude.{◌≡◌, map, string_bytes};
-ghost use Rattle.std.specs.Io.KnownBytes.{Appends};
-ghost use Rattle.cord_port.specs.Causes.{Rose};
-ghost use Rattle.cord_port.specs.Texts.{AppendsPart};
 ghost use Rattle.cord_sessions.specs.declared.ending.Ending.{Ending as Ending_value};
-ghost use Rattle.cord_sessions.specs.Endings.{Says, status_of};
+ghost use Rattle.cord_sessions.specs.Endings.{Says, SaysOf, Told, status_of};
+ghost use Rattle.cord_sessions.specs.Parts.{TellsUnread};
+ghost use Rattle.cord_sessions.specs.declared.asked.Asked.TheVariants.{Run, Check};
 
+use crate::asked::{Asked, command_of};
 use crate::ending::{Ending, MOST_SCRIPT};
-use crate::script_run::run_bytes;
-use crate::words::is_run;
+use crate::script_run::{check_bytes, run_bytes};
 use cord_port::{Gate, ReadRefused, Releaser, Sink, Source, read_all, write_all};
 use std::alloc::Global;
 use std::sync::Wait;
@@ -23,13 +22,60 @@ pub struct Finish {
 
 // Writes a line. A fault of the sink there changes no ending.
 fn tell<K: Sink>(sink: &mut K, line: &[u8])
-    ensures part { AppendsPart (K.held sink.old) (K.held sink.new) line.now }
-    ensures whole { ¬ (Rose (K.faults sink.old) (K.faults sink.new)) → Appends (K.held sink.old) (K.held sink.new) line.now }
+    ensures { Told (K.held sink.old) (K.held sink.new) (K.faults sink.old) (K.faults sink.new) line.now }
 {
     let _ = write_all(sink, line);
 }
 
+// Why the bytes of the source were not read, to the sink.
+fn tell_unread<K: Sink>(refused: ReadRefused, sink: &mut K) -> Ending
+    ensures { TellsUnread refused (K.held sink.old) (K.held sink.new) (K.faults sink.old) (K.faults sink.new) result }
+{
+    match refused {
+        ReadRefused::Memory => Ending::Memory,
+        ReadRefused::Fault => {
+            tell(sink, b"read fault\n");
+            Ending::ReadFault
+        }
+        ReadRefused::TooLong => {
+            tell(sink, b"script too long\n");
+            Ending::TooLong
+        }
+    }
+}
+
 fn run_to_end<R: Wait, S: Source, K: Sink, G: Gate>(
+    rt: &R,
+    alloc: Global,
+    source: &mut S,
+    sink: &mut K,
+    gate: &G,
+) -> Ending
+    ensures { SaysOf Run (record { left = S.left source.old; left_after = S.left source.new; given = S.given source.old; given_after = S.given source.new; read_faults = S.faults source.old; read_faults_after = S.faults source.new; held = K.held sink.old; held_after = K.held sink.new; write_faults = K.faults sink.old; write_faults_after = K.faults sink.new }) result }
+{
+    match read_all(alloc, source, MOST_SCRIPT) {
+        Ok(bytes) => run_bytes(rt, alloc, &bytes, sink, gate),
+        Err(refused) => tell_unread(refused, sink),
+    }
+}
+
+fn check_to_end<S: Source, K: Sink>(alloc: Global, source: &mut S, sink: &mut K) -> Ending
+    ensures { SaysOf Check (record { left = S.left source.old; left_after = S.left source.new; given = S.given source.old; given_after = S.given source.new; read_faults = S.faults source.old; read_faults_after = S.faults source.new; held = K.held sink.old; held_after = K.held sink.new; write_faults = K.faults sink.old; write_faults_after = K.faults sink.new }) result }
+{
+    match read_all(alloc, source, MOST_SCRIPT) {
+        Ok(bytes) => check_bytes(alloc, &bytes, sink),
+        Err(refused) => tell_unread(refused, sink),
+    }
+}
+
+/// Tells whether the bytes of the source are a script: its answer is the exit status.
+pub fn check_script<S: Source, K: Sink>(alloc: Global, source: &mut S, sink: &mut K) -> u8
+    ensures { (ending : Ending_value) × (result ≡ status_of ending) × SaysOf Check (record { left = S.left source.old; left_after = S.left source.new; given = S.given source.old; given_after = S.given source.new; read_faults = S.faults source.old; read_faults_after = S.faults source.new; held = K.held sink.old; held_after = K.held sink.new; write_faults = K.faults sink.old; write_faults_after = K.faults sink.new }) ending }
+{
+    check_to_end(alloc, source, sink).status()
+}
+
+fn do_asked<R: Wait, S: Source, K: Sink, G: Gate>(
     rt: &R,
     alloc: Global,
     words: &[String],
@@ -39,29 +85,21 @@ fn run_to_end<R: Wait, S: Source, K: Sink, G: Gate>(
 ) -> Ending
     ensures { Says (map string_bytes words.now) (record { left = S.left source.old; left_after = S.left source.new; given = S.given source.old; given_after = S.given source.new; read_faults = S.faults source.old; read_faults_after = S.faults source.new; held = K.held sink.old; held_after = K.held sink.new; write_faults = K.faults sink.old; write_faults_after = K.faults sink.new }) result }
 {
-    if !is_run(words) {
-        tell(
-            sink,
-            b"usage: cords run | cords check | cords load SEED SESSIONS COMMANDS\n",
-        );
-        return Ending::Usage;
-    }
-    match read_all(alloc, source, MOST_SCRIPT) {
-        Ok(bytes) => run_bytes(rt, alloc, &bytes, sink, gate),
-        Err(ReadRefused::Memory) => Ending::Memory,
-        Err(ReadRefused::Fault) => {
-            tell(sink, b"read fault\n");
-            Ending::ReadFault
-        }
-        Err(ReadRefused::TooLong) => {
-            tell(sink, b"script too long\n");
-            Ending::TooLong
+    match command_of(words) {
+        Some(Asked::Run) => run_to_end(rt, alloc, source, sink, gate),
+        Some(Asked::Check) => check_to_end(alloc, source, sink),
+        None => {
+            tell(
+                sink,
+                b"usage: cords run | cords check | cords load SEED SESSIONS COMMANDS\n",
+            );
+            Ending::Usage
         }
     }
 }
 
 /// Does what the words ask for. `run` reads a script from the source to its end, runs it, and writes its text to the
-/// sink, a line at a time. The releasers come back as they were.
+/// sink, a line at a time; `check` tells how much the script has. The releasers come back as they were.
 pub fn run_program<R: Threads + Wait + Sync, S: Source, K: Sink, G: Gate + Sync>(
     rt: &R,
     alloc: Global,
@@ -74,7 +112,7 @@ pub fn run_program<R: Threads + Wait + Sync, S: Source, K: Sink, G: Gate + Sync>
     ensures ending { (ending : Ending_value) × (result.status ≡ status_of ending) × Says (map string_bytes words.now) (record { left = S.left source.old; left_after = S.left source.new; given = S.given source.old; given_after = S.given source.new; read_faults = S.faults source.old; read_faults_after = S.faults source.new; held = K.held sink.old; held_after = K.held sink.new; write_faults = K.faults sink.old; write_faults_after = K.faults sink.new }) ending }
     ensures returned { result.returned ≡ releasers }
 {
-    let ending = run_to_end(rt, alloc, words, source, sink, gate);
+    let ending = do_asked(rt, alloc, words, source, sink, gate);
     Finish {
         status: ending.status(),
         returned: releasers,

@@ -63,7 +63,7 @@ less-cmp : (xs ys : List ℕ) → IsLess xs ys → slice_cmp nat_cmp xs ys ≡ L
 less-cmp xs ys less = ⊎_elim
     (λ prefix. ap (λ bytes. slice_cmp nat_cmp xs bytes) prefix.parts ∙ prefix-cmp xs prefix.next prefix.rest)
     (λ smaller. ap (λ bytes. slice_cmp nat_cmp bytes ys) smaller.xs_parts ∙ (ap (λ bytes. slice_cmp nat_cmp (smaller.front ++ smaller.smaller ∷ smaller.xs_rest) bytes) smaller.ys_parts
-      ∙ smaller-cmp smaller.front smaller.smaller smaller.larger smaller.xs_rest smaller.ys_rest smaller.below)) less
+    ∙ smaller-cmp smaller.front smaller.smaller smaller.larger smaller.xs_rest smaller.ys_rest smaller.below)) less
 
 -- two byte strings stand in one way to each other
 pub compares-value : (xs ys : List ℕ) (o : Ordering) → ComparesAs xs ys o → o ≡ slice_cmp nat_cmp xs ys

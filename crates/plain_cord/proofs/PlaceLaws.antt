@@ -93,8 +93,8 @@ stands-occurs bytes needle k stands =
   where
     behind : (front back : List ℕ) → OccursAt (front ++ (needle ++ back)) needle (length front)
     behind front back = OccursAt-from_part (front ++ (needle ++ back)) needle (length front)
-      (simp length-append (omega arith))
-      (ap (λ rest. take (length needle) rest) (drop-append_seam front (needle ++ back)) ∙ take-append_seam needle back)
+        (simp length-append (omega arith))
+        (ap (λ rest. take (length needle) rest) (drop-append_seam front (needle ++ back)) ∙ take-append_seam needle back)
 
 -- what the search answers is the least place
 pub found-first : (bytes needle : List ℕ) (o : Option ℕ) → FindsNeedle bytes needle 0 o → IsFirstPlace bytes needle o

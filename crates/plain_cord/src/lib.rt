@@ -13,3 +13,6 @@ pub use limits::{MOST_BYTES, MOST_SHOWN};
 pub use reply::{Book, NewMark, Reply};
 pub use script::{Command, Script, Session, Text};
 pub use searching::{compare_bytes, first_place};
+
+#[cfg(test)]
+mod tests;

@@ -2,3 +2,4 @@ pub mod Quotes
 pub mod Replies
 pub mod Outputs
 pub mod Lines
+pub mod Summaries

@@ -5,7 +5,9 @@ mod line;
 mod quoting;
 mod refusing;
 mod replies;
+mod summing;
 mod writing;
 
 pub use refusing::write_refusal;
+pub use summing::write_summary;
 pub use writing::write_run;

@@ -1,13 +1,13 @@
 -- The bytes were read to their end.
-use Rattle.std.proofs.Common.{◌≡◌, subst, map, string_bytes, List, ℕ, rules}
-use Rattle.cord_sessions.specs.Endings.{Outside, IsRun, IsRead}
+use Rattle.std.proofs.Common.{subst, List, ℕ}
+use Rattle.cord_sessions.specs.declared.asked.Asked.TheVariants.{Run}
+use Rattle.cord_sessions.specs.Endings.{Outside, IsRead}
 use Rattle.cord_sessions.specs.Parts.{SaysOfBytes}
 use Rattle.cord_sessions.proofs.Says.{says-of-bytes}
 use Rattle.cord_sessions.proofs.top.run_to_end.Goals as goal
 
 pub returns-in-Ok : goal.returns-in-Ok
 returns-in-Ok g c =
-    let words = map string_bytes c.args.words.now in
     let held = g.K.Sink.held c.args.sink.now in
     let held_after = g.K.Sink.held c.run_bytes.new.sink in
     let faults = g.K.Sink.faults c.args.sink.now in
@@ -24,11 +24,10 @@ returns-in-Ok g c =
       write_faults = faults;
       write_faults_after = faults_after;
     } in
-    let asked : IsRun words = search rules in
     let read : IsRead o c.in-Ok.bytes.items = record {
       gave = c.in-Ok.ensures.whole;
       end = c.in-Ok.ensures.end;
       within = c.in-Ok.ensures.within;
       faultless = c.in-Ok.ensures.kept (λ same. cc);
     } in
-    says-of-bytes words o c.in-Ok.bytes.items c.run_bytes.result asked read (subst (λ (bytes : List ℕ). SaysOfBytes bytes held held_after faults faults_after c.run_bytes.result) c.deref.ensures.value c.run_bytes.ensures)
+    says-of-bytes Run o c.in-Ok.bytes.items c.run_bytes.result read (subst (λ (bytes : List ℕ). SaysOfBytes Run bytes held held_after faults faults_after c.run_bytes.result) c.deref.ensures.value c.run_bytes.ensures)
