@@ -3,3 +3,4 @@ pub mod Sounds
 pub mod Shorts
 pub mod Says
 pub mod Counts
+pub mod EndingLaws

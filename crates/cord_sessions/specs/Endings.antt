@@ -125,8 +125,10 @@ pub record IsReadFault (o : Outside) : Type 0 where
   pub within : o.given_after ≤ o.given + MOST_SCRIPT
   pub told : Told o.held o.held_after o.write_faults o.write_faults_after read_fault_line
 
--- one byte more than the limit was read
+-- one byte more than the limit was read, of bytes that the source had
 pub record IsTooLong (o : Outside) : Type 0 where
+  pub bytes : List ℕ
+  pub gave : Gave o.left o.left_after o.given o.given_after bytes
   pub read : o.given_after ≡ o.given + (MOST_SCRIPT + 1)
   pub faultless : o.read_faults_after ≡ o.read_faults
   pub told : Told o.held o.held_after o.write_faults o.write_faults_after too_long_line
