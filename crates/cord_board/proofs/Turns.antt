@@ -14,7 +14,7 @@ use Rattle.cord_board.specs.declared.view.BoardView.{BoardView}
 use Rattle.cord_board.specs.declared.view.BoardView.TheVariants.{Root, Session}
 use Rattle.cord_board.specs.Deeds.{length_set}
 use Rattle.cord_board.specs.Log.{deed, after_of, IsProper, cells_after, entry_of, emptied, empty_cells, Acts, Clears}
-use Rattle.cord_board.specs.Rule.{value_of, all_left, Fits, Stands, Acted, Cleared, Leaves, IsLog, Held}
+use Rattle.cord_board.specs.Rule.{value_of, all_left, Fits, Stands, Acted, Cleared, Leaves, IsLog, CellHeld}
 use Rattle.cord_board.specs.Views.{has, entries_left, session_of, mine_of, gave_of, joined_of, cleared_of, IsSession, IsRoot, IsLast, CanAct, next_place, Did, gathered}
 use Rattle.cord_board.specs.Voices.{left_among, all_left_set, speaks_in}
 
@@ -216,7 +216,7 @@ module _ {C : Type 0} where
           fits.3,
         )
 
-    pub held : (l : ℕ) (x y : Cells C) (v : BoardView C) (cell : ℕ) (was : Option C) → Agreed (Stands size) l (home x) v → IsLast v → Clears x y cell was → Held (gave_of v) (joined_of v) (cleared_of v) cell was
+    pub held : (l : ℕ) (x y : Cells C) (v : BoardView C) (cell : ℕ) (was : Option C) → Agreed (Stands size) l (home x) v → IsLast v → Clears x y cell was → CellHeld (gave_of v) (joined_of v) (cleared_of v) cell was
     held l x y v cell was a last clears =
         let s = a.3 in
         let is : s.spot ≡ home x = one_spot l s.spot (home x) (ap (λ z. get_elem? z l) (sym s.one) ∙ a.4) in

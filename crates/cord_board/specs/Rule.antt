@@ -126,5 +126,5 @@ module _ {C : Type 0} where
   IsHistory size history gave joined = (log : List (Deed C)) × IsLog gave joined log × (history ≡ map (entry_of size) log)
 
   -- the cell held what such a list made of it, if it wasn't cleared before
-  abbrev pub Held : List ℕ → List (ℕ × List (Deed C)) → List ℕ → ℕ → Option C → Type 0
-  Held gave joined cleared cell was = (log : List (Deed C)) × IsLog gave joined log × (slice_get (emptied cleared (cells_after empty_cells log)) cell ≡ Some was)
+  abbrev pub CellHeld : List ℕ → List (ℕ × List (Deed C)) → List ℕ → ℕ → Option C → Type 0
+  CellHeld gave joined cleared cell was = (log : List (Deed C)) × IsLog gave joined log × (slice_get (emptied cleared (cells_after empty_cells log)) cell ≡ Some was)

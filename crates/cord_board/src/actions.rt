@@ -2,7 +2,7 @@
 ghost use Rattle.std.specs.Prelude.{◌≡◌, ◌<◌, ◌∷◌, IsNone, IsSomeAnd, MatchOption, MatchResult, Option, Some, None};
 ghost use Rattle.cord_board.specs.Log.{deed};
 ghost use Rattle.cord_board.specs.Passes.{board_view, IsOn};
-ghost use Rattle.cord_board.specs.Rule.{Held};
+ghost use Rattle.cord_board.specs.Rule.{CellHeld};
 ghost use Rattle.cord_board.specs.Views.{entries_left, session_of, gave_of, joined_of, cleared_of, next_place, CanAct, Did, IsLast};
 ghost use Rattle.cord_board.specs.declared.view.BoardView.TheVariants.{Root};
 
@@ -91,7 +91,7 @@ impl<C: BoardItem> Board<C> {
         requires last { IsLast (board_view pass.old) }
         ensures board { IsOn self.now pass.new }
         ensures cleared { let v = board_view pass.old in board_view pass.new ≡ Root (entries_left v) (gave_of v) (joined_of v) (cell ∷ cleared_of v) }
-        ensures held { let v = board_view pass.old in Held (gave_of v) (joined_of v) (cleared_of v) cell result }
+        ensures held { let v = board_view pass.old in CellHeld (gave_of v) (joined_of v) (cleared_of v) cell result }
     {
         let mut turn = self.desk.enter(rt, &mut pass.pass, 0);
         let was = turn.value().clear(cell);

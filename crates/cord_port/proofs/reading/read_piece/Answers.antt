@@ -1,3 +1,4 @@
+-- What the proof of `read_piece` needs beyond the search.
 use Rattle.std.proofs.Common.{rules, arith, ◌≡◌, ℕ, ◌+◌, ◌≤◌, ◌++◌, length, ◌-◌, take, drop, replicate, sym, ap, ◌∙◌}
 use Rattle.std.proofs.lemmas.List.{length-take-le}
 use Rattle.cord_port.proofs.Pieces.{piece, resized}

@@ -1,3 +1,4 @@
+-- What the proof of `write_all` needs beyond the search.
 use Rattle.std.proofs.Common.{rules, arith, ◌+◌, ◌-◌, ◌<◌, take, drop, length, sym, ap, ◌∙◌, subst}
 use Rattle.std.proofs.lemmas.List.{take-append-drop}
 use Rattle.std.specs.Io.KnownBytes.{Appends}

@@ -1,3 +1,4 @@
+-- What the proof of `slots_of` needs beyond the search.
 use Rattle.std.proofs.Common.{arith, length, ap}
 use Rattle.turn_desk.proofs.start.slots_of.Goals as goal
 

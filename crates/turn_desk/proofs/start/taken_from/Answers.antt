@@ -1,3 +1,4 @@
+-- What the proof of `taken_from` needs beyond the search.
 use Rattle.std.proofs.Common.{arith, ◌∙◌, ◌++◌, ◌∷◌, [], length, ap, sym}
 use Rattle.turn_desk.specs.Spots.{values_of}
 use Rattle.turn_desk.proofs.Starting.{values_one_more, values_no_more}

@@ -1,3 +1,4 @@
+-- What the proof of `Board::finish` needs beyond the search.
 use Rattle.std.proofs.Common.{◌∙◌, sym, subst}
 use Rattle.turn_desk.specs.Passes.{desk_view}
 use Rattle.cord_board.specs.Rule.{IsHistory}

@@ -1,3 +1,4 @@
+-- What the proof of `Board::merge` needs beyond the search.
 use Rattle.turn_desk.specs.Passes.{desk_view}
 use Rattle.cord_board.proofs.Turns.{few_both, joined_pass}
 use Rattle.cord_board.proofs.board.Board.merge.Goals as goal

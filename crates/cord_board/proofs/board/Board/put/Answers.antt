@@ -1,3 +1,4 @@
+-- What the proof of `Board::put` needs beyond the search.
 use Rattle.std.proofs.Common.{rules, arith, ◌≡◌, ℕ, ◌+◌, ◌<◌, length, Some, None, ap, ◌∙◌, sym, subst}
 use Rattle.turn_desk.specs.Passes.{desk_view}
 use Rattle.cord_board.specs.declared.entry.Act.TheVariants.{Put}

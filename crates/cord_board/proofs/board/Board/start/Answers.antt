@@ -1,3 +1,4 @@
+-- What the proof of `Board::start` needs beyond the search.
 use Rattle.std.proofs.Common.{rules}
 use Rattle.cord_board.proofs.Ends.{opens}
 use Rattle.cord_board.proofs.board.Board.start.Goals as goal

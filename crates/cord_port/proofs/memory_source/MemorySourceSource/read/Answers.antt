@@ -1,3 +1,4 @@
+-- What the proof of `MemorySourceSource::read` needs beyond the search.
 use Rattle.std.proofs.Common.{arith, ◌≡◌, ◌-◌, ◌≤◌, take, drop, length, min, ap, ◌∙◌}
 use Rattle.std.proofs.lemmas.List.{length-take-le}
 use Rattle.cord_port.proofs.Copies.{gives, at_end}

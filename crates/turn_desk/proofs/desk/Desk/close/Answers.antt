@@ -1,3 +1,4 @@
+-- What the proof of `Desk::close` needs beyond the search.
 use Rattle.std.proofs.Common.{rules, arith, ◌≡◌, ℕ, suc, ◌<◌, ◌≤◌, ◌+◌, List, [], ◌∷◌, ◌++◌, map, length, take, vec_len, vec_capacity, get_or, true, false, refl, ap, sym, ◌∙◌, subst, below_more, get_or-set_other, get_or-set_same, add-one}
 use mathlib.Core.Option.{some}
 use lib.ListN.{get_elem?}

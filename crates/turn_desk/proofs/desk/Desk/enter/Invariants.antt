@@ -1,3 +1,4 @@
+-- What the loops of `Desk::enter` keep.
 use Rattle.std.proofs.Common.{◌≡◌}
 use Rattle.turn_desk.specs.Passes.{desk_view, IsSamePass, IsIdle}
 use Rattle.turn_desk.proofs.desk.Desk.enter.Given as goal

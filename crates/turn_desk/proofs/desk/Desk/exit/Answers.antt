@@ -1,3 +1,4 @@
+-- What the proof of `Desk::exit` needs beyond the search.
 use Rattle.std.proofs.Common.{arith, ◌<◌, ◌∙◌, sym, ap, subst, ◌∷◌, Some}
 use Rattle.atomic_table.specs.Table.{rest, Me}
 use Rattle.std.specs.Prelude.{Option}

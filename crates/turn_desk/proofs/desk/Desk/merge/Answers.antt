@@ -1,3 +1,4 @@
+-- What the proof of `Desk::merge` needs beyond the search.
 use Rattle.std.proofs.Common.{rules}
 use Rattle.turn_desk.proofs.Keeps.{joins, recalls}
 use Rattle.turn_desk.proofs.desk.Desk.merge.Goals as goal

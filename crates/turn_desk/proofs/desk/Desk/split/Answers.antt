@@ -1,3 +1,4 @@
+-- What the proof of `Desk::split` needs beyond the search.
 use Rattle.std.proofs.Common.{rules}
 use Rattle.turn_desk.proofs.Keeps.{splits, recalls}
 use Rattle.turn_desk.proofs.desk.Desk.split.Goals as goal

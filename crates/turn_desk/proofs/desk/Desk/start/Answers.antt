@@ -1,3 +1,4 @@
+-- What the proof of `Desk::start` needs beyond the search.
 use Rattle.std.proofs.Common.{rules, ◌∙◌, ap}
 use Rattle.turn_desk.specs.Spots.{values_of}
 use Rattle.turn_desk.proofs.Closing.{opens}

@@ -1,3 +1,4 @@
+-- What the proof of `Desk::try_enter` needs beyond the search.
 use Rattle.std.proofs.Common.{rules, ◌∷◌, sym, ap, ◌∙◌, Some}
 use Rattle.atomic_table.specs.Table.{rest}
 use Rattle.turn_desk.proofs.Keeps.{enters}
