@@ -1,0 +1,5 @@
+pub mod SameRuns
+pub mod StayLaws
+pub mod OtherNames
+pub mod AppendLaws
+pub mod SumLaws

@@ -1,0 +1,63 @@
+-- A command leaves the names that it does not set.
+use Rattle.std.proofs.Common.{◌≡◌, ◌≢◌, ◌∙◌, sym, ap, refl, List, ℕ, Option, Some, None}
+use Rattle.std.specs.Str.{bytes_eq}
+use Rattle.std.proofs.lemmas.Slice.Eq.{bytes_eq-Decides}
+use Rattle.std.proofs.lemmas.Bool.{cond_both}
+use Rattle.plain_cord.specs.declared.script.Command.{Command}
+use Rattle.plain_cord.specs.declared.script.Command.TheVariants as commands
+use Rattle.plain_cord.specs.declared.reply.Reply.{Reply}
+use Rattle.plain_cord.specs.States.{CordState, Environment, with_name}
+use Rattle.plain_cord.specs.Outcomes.{Outcome, outcome, with_found, with_cord}
+use Rattle.plain_cord.specs.Steps.{IsOutcome, PlainStep}
+use Rattle.plain_laws.specs.Targets.{target}
+
+-- setting a name leaves the others
+set-other : (names : Environment) (a name : List ℕ) (cord : CordState) → Some a ≢ Some name → with_name names a cord name ≡ names name
+set-other names a name cord other = cond_both (bytes_eq a name) (Some cord) (names name) (λ o. o ≡ names name) (λ yes. absurd (other (ap Some ((bytes_eq-Decides a name).0 yes)))) (λ no. refl)
+
+abbrev LeavesName : Environment → List ℕ → Option Outcome → Type 0
+LeavesName names name None = Unit {0}
+LeavesName names name (Some o) = o.names name ≡ names name
+
+leaves-found : (names : Environment) (a name : List ℕ) (o : Option CordState) (go : CordState → Outcome) → ((cord : CordState) → (go cord).names name ≡ names name) → (with_found names a o go).names name ≡ names name
+leaves-found names a name None go leaves = refl
+leaves-found names a name (Some cord) go leaves = leaves cord
+
+leaves-cord : (names : Environment) (a name : List ℕ) (go : CordState → Outcome) → ((cord : CordState) → (go cord).names name ≡ names name) → (with_cord names a go).names name ≡ names name
+leaves-cord names a name go leaves = leaves-found names a name (names a) go leaves
+
+leaves-outcome : (names : Environment) (command : Command) (name : List ℕ) → target command ≢ Some name → LeavesName names name (outcome names command)
+leaves-outcome names (commands.Let a text) name other = set-other names a name _ other
+leaves-outcome names (commands.Ext a text) name other = tt
+leaves-outcome names (commands.Copy a b) name other = leaves-cord names a name _ (λ cord. set-other names b name _ other)
+leaves-outcome names (commands.Sub a pos n b) name other = leaves-cord names a name _ (λ cord. set-other names b name _ other)
+leaves-outcome names (commands.Clear a) name other = leaves-cord names a name _ (λ cord. set-other names a name _ other)
+leaves-outcome names (commands.Append a text) name other = leaves-cord names a name _ (λ cord. set-other names a name _ other)
+leaves-outcome names (commands.Prepend a text) name other = leaves-cord names a name _ (λ cord. set-other names a name _ other)
+leaves-outcome names (commands.Join a b) name other = leaves-cord names a name _ (λ cord. leaves-cord names b name _ (λ second. set-other names a name _ other))
+leaves-outcome names (commands.JoinFront a b) name other = leaves-cord names a name _ (λ cord. leaves-cord names b name _ (λ second. set-other names a name _ other))
+leaves-outcome names (commands.CutFront a n) name other = leaves-cord names a name _ (λ cord. set-other names a name _ other)
+leaves-outcome names (commands.CutBack a n) name other = leaves-cord names a name _ (λ cord. set-other names a name _ other)
+leaves-outcome names (commands.SetSum a value) name other = leaves-cord names a name _ (λ cord. set-other names a name _ other)
+leaves-outcome names (commands.Sum a) name other = leaves-cord names a name _ (λ cord. refl)
+leaves-outcome names (commands.Size a) name other = leaves-cord names a name _ (λ cord. refl)
+leaves-outcome names (commands.Print a) name other = leaves-cord names a name _ (λ cord. refl)
+leaves-outcome names (commands.At a i) name other = leaves-cord names a name _ (λ cord. refl)
+leaves-outcome names (commands.Find a text) name other = leaves-cord names a name _ (λ cord. refl)
+leaves-outcome names (commands.Compare a b) name other = leaves-cord names a name _ (λ cord. leaves-cord names b name _ (λ second. refl))
+leaves-outcome names (commands.Starts a text) name other = leaves-cord names a name _ (λ cord. refl)
+leaves-outcome names (commands.Ends a text) name other = leaves-cord names a name _ (λ cord. refl)
+leaves-outcome names (commands.Put a cell) name other = tt
+leaves-outcome names (commands.Take cell a) name other = tt
+leaves-outcome names (commands.Peek cell a) name other = tt
+leaves-outcome names (commands.Swap a cell) name other = tt
+leaves-outcome names commands.Snap name other = tt
+leaves-outcome names commands.Walk name other = tt
+leaves-outcome names commands.Unsnap name other = tt
+
+leaves-step : (names : Environment) (o : Option Outcome) (now : Environment) (reply : Reply) (name : List ℕ) → LeavesName names name o → IsOutcome o now reply → now name ≡ names name
+leaves-step names None now reply name leaves step = absurd step
+leaves-step names (Some o) now reply name leaves step = sym (step.0 name) ∙ leaves
+
+pub others-stay : (names now : Environment) (command : Command) (reply : Reply) (name : List ℕ) → PlainStep names command now reply → target command ≢ Some name → now name ≡ names name
+others-stay names now command reply name step other = leaves-step names (outcome names command) now reply name (leaves-outcome names command name other) step

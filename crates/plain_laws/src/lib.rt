@@ -1,0 +1,14 @@
+//! Laws of the definitions: what a user of byte strings may rely on, over all commands that have a plain step and all
+//! lists of them.
+//! Each function does nothing; its contract is the law.
+#![tactic(auto)]
+
+mod changes;
+mod orders;
+mod runs;
+mod sums;
+
+pub use changes::{cuts_are_parts, other_names_stay, refusals_change_nothing};
+pub use orders::{first_place_is_one, order_is_total};
+pub use runs::{appended_texts_are_printed, books_are_determined};
+pub use sums::{changes_lose_sums, copies_keep_sums, sums_are_not_seen};

@@ -1,0 +1,29 @@
+//! Whole runs.
+ghost use Rattle.std.specs.Prelude.{◌≡◌, ℕ, ◌≤◌, List, [], ◌∷◌, ◌++◌, length};
+ghost use Rattle.plain_cord.specs.declared.limits.TheConstants.{MOST_BYTES};
+ghost use Rattle.plain_cord.specs.declared.script.Text.{Text as Text_value};
+ghost use Rattle.plain_cord.specs.declared.script.Command.{Command as Command_value};
+ghost use Rattle.plain_cord.specs.declared.script.Command.TheVariants as commands;
+ghost use Rattle.plain_cord.specs.declared.script.Session.{Session as Session_value};
+ghost use Rattle.plain_cord.specs.declared.reply.Reply.{Reply as Reply_value};
+ghost use Rattle.plain_cord.specs.declared.reply.Book.{Book as Book_value};
+ghost use Rattle.plain_cord.specs.Texts.{text_bytes};
+ghost use Rattle.plain_cord.specs.States.{Environment};
+ghost use Rattle.plain_cord.specs.Outcomes.{shown};
+ghost use Rattle.plain_cord.specs.Steps.{PlainRun};
+ghost use Rattle.plain_cord.specs.Runs.{IsPlainRun};
+ghost use Rattle.plain_laws.specs.Appends.{AppendsTo, texts_bytes};
+
+/// A name that is set to a text, and to which then texts are appended among any other commands that leave it alone,
+/// is printed as the texts joined.
+pub fn appended_texts_are_printed()
+    ensures { (names now : Environment) (a : List ℕ) (first : Text_value) (said : List Command_value) (texts : List Text_value) (replies : List Reply_value)
+        → AppendsTo a said texts → length (text_bytes first ++ texts_bytes texts) ≤ MOST_BYTES
+        → PlainRun names (commands.Let a first ∷ said ++ commands.Print a ∷ []) replies now
+        → (before : List Reply_value) × (replies ≡ before ++ shown (text_bytes first ++ texts_bytes texts) ∷ []) }
+{}
+
+/// A script has one answer: two lists of books that are plain runs of it are the same.
+pub fn books_are_determined()
+    ensures { (sessions : List Session_value) (books others : List Book_value) → IsPlainRun sessions books → IsPlainRun sessions others → books ≡ others }
+{}
