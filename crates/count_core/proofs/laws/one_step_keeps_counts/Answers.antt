@@ -1,0 +1,5 @@
+use Rattle.count_core.proofs.Runs.{does_sound}
+use Rattle.count_core.proofs.laws.one_step_keeps_counts.Goals as goal
+
+pub returns : goal.returns
+returns c = does_sound

@@ -1,0 +1,11 @@
+pub mod Holders
+pub mod Sound
+pub mod Views
+pub mod Steps
+pub mod Worlds
+pub mod Runs
+pub mod Lives
+pub mod Paths
+pub mod Search
+pub mod TreeNode
+pub mod Terms

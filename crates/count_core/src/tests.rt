@@ -1,0 +1,226 @@
+//! Steps on small worlds, by their answers and their words.
+use crate::memory::Memory;
+use crate::step::Step;
+use crate::tree::Tree;
+use crate::view::View;
+use crate::world::World;
+use node_forest::Kind;
+use rand_core::utils::NextWord;
+use rand_pcg::Pcg32;
+use std::alloc::{AllocError, Global};
+use std::test::Fail;
+
+/// A flat of 20 bytes.
+fn flat(alloc: Global, number: u32) -> Tree {
+    Tree {
+        number,
+        kind: Kind::Flat,
+        length: 20,
+        children: Vec::new(alloc),
+    }
+}
+
+#[test]
+fn words_follow_a_flat_through_its_life(rt: HostRuntime) {
+    let alloc = rt.alloc();
+    let mut world = World::new(alloc, 4, 1).expect(&rt, "a small world");
+    let take = Step::Take {
+        view: 0,
+        number: 0,
+        tree: flat(alloc, 0),
+    };
+    let share = Step::Share { view: 0, number: 0 };
+    let leave = Step::Leave { view: 0, number: 0 };
+    for (step, word) in [(&take, 1), (&share, 2), (&leave, 1), (&leave, 0)] {
+        assert_eq!(rt; world.apply(alloc, step), Ok(true));
+        assert_eq!(rt; world.words.first().copied(), Some(word));
+        assert_eq!(rt; world.holders(0), word);
+    }
+    assert_eq!(rt; world.apply(alloc, &leave), Ok(false));
+    assert_eq!(rt; world.words.first().copied(), Some(0));
+}
+
+/// A world of 3 numbers and 2 views: the first has a branch, number 2, over a flat, number 0, which it also holds.
+fn branch_world(alloc: Global) -> Result<World, Memory> {
+    let mut world = World::new(alloc, 3, 2)?;
+    let take = Step::Take {
+        view: 0,
+        number: 0,
+        tree: flat(alloc, 0),
+    };
+    let _ = world.apply(alloc, &take)?;
+    let _ = world.apply(alloc, &Step::Share { view: 0, number: 0 })?;
+    let _ = world.apply(alloc, &branch(alloc, 0, 2, 1)?)?;
+    Ok(world)
+}
+
+/// The take of a branch over so many flats with the number 0.
+fn branch(alloc: Global, view: u32, number: u32, edges: u64) -> Result<Step, Memory> {
+    let mut children = Vec::new(alloc);
+    for _ in 0..edges {
+        children.push(flat(alloc, 0))?;
+    }
+    let tree = Tree {
+        number,
+        kind: Kind::Branch,
+        length: edges.saturating_mul(20),
+        children,
+    };
+    Ok(Step::Take { view, number, tree })
+}
+
+#[test]
+fn impossible_steps_are_refused(rt: HostRuntime) -> Result<(), Fail> {
+    let alloc = rt.alloc();
+    let mut world = branch_world(alloc).expect(&rt, "a small world");
+    let wrong_child = Tree {
+        number: 1,
+        kind: Kind::Part,
+        length: 5,
+        children: vec![in alloc;
+            Tree {
+                length: 21,
+                ..flat(alloc, 0)
+            },
+        ]?,
+    };
+    let refused = vec![in alloc;
+        Step::Take {
+            view: 2,
+            number: 1,
+            tree: flat(alloc, 1)
+        },
+        Step::Take {
+            view: 0,
+            number: 3,
+            tree: flat(alloc, 3)
+        },
+        Step::Take {
+            view: 0,
+            number: 1,
+            tree: flat(alloc, 0)
+        },
+        Step::Take {
+            view: 0,
+            number: 0,
+            tree: flat(alloc, 0)
+        },
+        branch(alloc, 0, 1, 2).expect(&rt, "a small tree"),
+        branch(alloc, 1, 1, 1).expect(&rt, "a small tree"),
+        Step::Take {
+            view: 0,
+            number: 1,
+            tree: wrong_child
+        },
+        Step::Share { view: 1, number: 0 },
+        Step::Share { view: 0, number: 1 },
+        Step::Leave { view: 1, number: 2 },
+        Step::Leave { view: 0, number: 1 },
+        Step::Look { view: 1, number: 0 },
+        Step::Split {
+            view: 0,
+            places: vec![in alloc; 2]?
+        },
+        Step::Split {
+            view: 0,
+            places: vec![in alloc; 1, 1]?
+        },
+        Step::Merge { view: 0, other: 0 },
+        Step::Merge { view: 0, other: 2 },
+        Step::Uncounted { view: 0 },
+        Step::Counted { view: 2 },
+        Step::Home { view: 2 },
+    ]?;
+    for (i, step) in refused.iter().enumerate() {
+        assert_eq!(rt; world.apply(alloc, step), Ok(false), "step {i}");
+    }
+    assert_eq!(rt; world.words.as_slice(), [2, 0, 1].as_slice());
+    assert_eq!(rt; world.views.len(), 2);
+    Ok(())
+}
+
+/// A random step. A take makes a tree of a view's first direct holds, whose kind fits how many they are.
+fn random_step(alloc: Global, world: &World, random: &mut Pcg32) -> Result<Step, Memory> {
+    let view = random.next_word() % 4;
+    let number = random.next_word() % 8;
+    let other = random.next_word() % 4;
+    Ok(match random.next_word() % 14 {
+        0..=3 => {
+            let tree = random_tree(
+                alloc,
+                world.views.get(view as usize),
+                number,
+                random.next_word() % 4,
+            )?;
+            Step::Take { view, number, tree }
+        }
+        4 | 5 => Step::Share { view, number },
+        6 | 7 => Step::Leave { view, number },
+        8 => Step::Look { view, number },
+        9 => Step::Merge { view, other },
+        10 => {
+            let mut places = Vec::new(alloc);
+            places.push(random.next_word() % 3)?;
+            Step::Split { view, places }
+        }
+        11 => Step::Counted { view },
+        12 => Step::Uncounted { view },
+        _ => Step::Home { view },
+    })
+}
+
+/// A tree with the number, over at most so many of the view's first direct holds.
+fn random_tree(alloc: Global, view: Option<&View>, number: u32, most: u32) -> Result<Tree, Memory> {
+    let mut children = Vec::new(alloc);
+    if let Some(view) = view {
+        for tree in view.holds.iter().take(most as usize) {
+            children.push(tree.copied(alloc)?)?;
+        }
+    }
+    let kind = match children.len() {
+        0 => Kind::Flat,
+        1 if number.is_multiple_of(2) => Kind::Part,
+        1 => Kind::Sum,
+        _ => Kind::Branch,
+    };
+    Ok(Tree {
+        number,
+        kind,
+        length: 20,
+        children,
+    })
+}
+
+/// The last view, which a split made, goes to one of the first four.
+fn gather(alloc: Global, world: &mut World, view: u32) -> Result<(), Memory> {
+    while world.views.len() > 4 {
+        let other = (world.views.len() - 1) as u32;
+        let _ = world.apply(alloc, &Step::Merge { view, other })?;
+        let _ = world.views.pop();
+    }
+    Ok(())
+}
+
+#[test]
+fn words_are_the_holders_along_a_random_walk(rt: HostRuntime) {
+    let alloc = rt.alloc();
+    let mut world = World::new(alloc, 8, 4).expect(&rt, "a small world");
+    let mut random = Pcg32::new(7, 11);
+    let mut done = 0u32;
+    for i in 0..4000u32 {
+        let step = random_step(alloc, &world, &mut random).expect(&rt, "a small step");
+        if world.apply(alloc, &step).expect(&rt, "a small step") {
+            done = done.saturating_add(1);
+        }
+        let view = random.next_word() % 4;
+        gather(alloc, &mut world, view).expect(&rt, "a small step");
+        for n in 0..8u32 {
+            assert_eq!(rt;
+                world.words.get(n as usize).copied(),
+                Some(world.holders(n)),
+                "word {n} after step {i}"
+            );
+        }
+    }
+    assert!(rt; done > 1000, "only {done} steps were possible");
+}

@@ -1,0 +1,4 @@
+pub mod Maps
+pub mod Members
+pub mod Counts
+pub mod Same

@@ -1,0 +1,5 @@
+pub mod Forest
+pub mod Label
+pub mod Members
+pub mod Counts
+pub mod Codes
