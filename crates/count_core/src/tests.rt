@@ -191,11 +191,10 @@ fn random_tree(alloc: Global, view: Option<&View>, number: u32, most: u32) -> Re
     })
 }
 
-/// The last view, which a split made, goes to one of the first four.
+/// A fifth view, which a split made, goes to one of the first four.
 fn gather(alloc: Global, world: &mut World, view: u32) -> Result<(), Memory> {
-    while world.views.len() > 4 {
-        let other = (world.views.len() - 1) as u32;
-        let _ = world.apply(alloc, &Step::Merge { view, other })?;
+    if world.views.len() == 5 {
+        let _ = world.apply(alloc, &Step::Merge { view, other: 4 })?;
         let _ = world.views.pop();
     }
     Ok(())

@@ -90,7 +90,7 @@ impl World {
         }
         let copy = tree.copied(alloc)?;
         self.views[view as usize].close(&tree.children, copy)?;
-        self.words[number as usize] += 1;
+        self.words[number as usize] = 1;
         Ok(true)
     }
 

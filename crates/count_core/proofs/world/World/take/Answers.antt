@@ -20,5 +20,5 @@ returns-clause-done c =
     let own : c.index_mut.result.now ≡ get_or c.args.self.now.views.items c.args.view [] = c.index_mut.ensures.value ∙ default_same c.args.self.now.views.items c.args.view c.index_mut.result.now [] can.view in
     let made : c.close.new.self ≡ without_all (children c.args.tree.now) (get_or c.args.self.now.views.items c.args.view []) ++ c.args.tree.now ∷ [] =
     c.in_ok-close.ensures.ok ∙ (λ i. without_all (kids i) (own i) ++ c.in_ok-copy.ensures i ∷ []) in
-    let word : c.index_mut-2.result.now ≡ get_or c.args.self.now.words.items c.args.number 0 = c.index_mut-2.ensures.value ∙ default_same c.args.self.now.words.items c.args.number c.index_mut-2.result.now 0 can.place in
-    (can, λ i. record { words = set c.args.self.now.words.items c.args.number (word i + 1); live = c.args.self.now.live; views = set c.args.self.now.views.items c.args.view (made i) })
+    let word : 1 ≡ get_or c.args.self.now.words.items c.args.number 0 + 1 = ap (λ z. z + 1) (sym can.free) in
+    (can, λ i. record { words = set c.args.self.now.words.items c.args.number (word i); live = c.args.self.now.live; views = set c.args.self.now.views.items c.args.view (made i) })
