@@ -9,6 +9,7 @@ pub mod Lone
 pub mod Marks
 pub mod DifferentNumbers
 pub mod Around
+pub mod Edits
 pub mod Moves
 pub mod Search
 pub mod Runs

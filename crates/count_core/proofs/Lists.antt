@@ -54,6 +54,11 @@ module _ {A : Type 0} where
   set-last (y ∷ ys) zero x last l = refl
   set-last (y ∷ ys) (suc i) x last l = ap (λ zs. y ∷ zs) (set-last ys i x last (omega arith))
 
+  pub get_past : (xs : List A) (i : ℕ) (d : A) → length xs ≤ i → get_or xs i d ≡ d
+  get_past [] i d l = refl
+  get_past (x ∷ xs) zero d l = absurd (omega arith)
+  get_past (x ∷ xs) (suc i) d l = get_past xs i d (omega arith)
+
   pub take_whole : (xs : List A) (n : ℕ) → length xs ≤ n → take n xs ≡ xs
   take_whole [] zero l = refl
   take_whole [] (suc n) l = refl

@@ -15,7 +15,7 @@ use Rattle.count_core.proofs.Parts.{parts_last}
 abbrev pub less : (ℕ → ℕ) → Node → ℕ → ℕ
 less word t n = word n - is n t
 
-less_is : (word : ℕ → ℕ) (t : Node) → word (number t) ≡ 1 → (n : ℕ) → less word t n + is n t ≡ word n
+pub less_is : (word : ℕ → ℕ) (t : Node) → word (number t) ≡ 1 → (n : ℕ) → less word t n + is n t ≡ word n
 less_is word t one n =
     dite (ℕ_discrete n (number t))
     (λ e. let i = is_one n t (sym e) in let w : word n ≡ 1 = ap word e ∙ one in omega arith)

@@ -8,17 +8,19 @@ use Rattle.node_forest.specs.Forest.{children, nodes_of}
 use Rattle.node_forest.specs.Label.{Node, number}
 use Rattle.node_forest.specs.Members.{In, Occurs}
 use Rattle.node_forest.specs.Counts.{is, times, first}
-use Rattle.node_forest.proofs.Members.{root_occurs}
+use Rattle.node_forest.proofs.Members.{root_occurs, occurs_split, occurs_left, occurs_right}
 use Rattle.node_forest.proofs.Counts.{is_one, is_none, times_pos, times_some, first_cases, first_found}
 use Rattle.count_core.specs.Holders.{Fitting, holders}
 use Rattle.count_core.specs.Sound.{Sound, Parts, holders_below}
+use Rattle.count_core.specs.Marks.{Change, FitsRoot, edited_holds, holds_of, edits, site}
 use Rattle.count_core.specs.Views.{without, without_all, IsHeld, AreHeld, edges_of_one, passed_on, moving, staying}
-use Rattle.count_core.specs.Steps.{State, Step, take, share, leave, look, split, merge, counted, uncounted, home, word_at, holds_at, roots, CanTake, CanShare, CanLeave, CanSplit, CanMerge, CanStep, after, changed}
+use Rattle.count_core.specs.Steps.{State, Step, take, share, leave, look, mark, split, merge, counted, uncounted, home, word_at, holds_at, roots, CanTake, CanShare, CanLeave, CanMark, CanSplit, CanMerge, CanStep, after, changed, with_views}
 use Rattle.count_core.specs.Worlds.{IsSound}
 use Rattle.count_core.proofs.DifferentNumbers.{holders_below-holders}
 use Rattle.count_core.proofs.Parts.{parts_last}
 use Rattle.count_core.proofs.Counting.{stays, shares, takes, leaves_last, leaves_shared, has_holder}
-use Rattle.count_core.proofs.Around.{seen_occurs, grows, shrinks, turns, parts_without, in_without, parts_join, parts_none, parts_moving}
+use Rattle.count_core.proofs.Edits.{Shuffled, shuffled_sound, shuffled_then, shuffled_append, shuffled_refl, shuffled_back, shuffled_swap, shuffled_between, edits_sound}
+use Rattle.count_core.proofs.Around.{around, seen_occurs, grows, shrinks, turns, parts_without, in_without, parts_join, parts_none, parts_moving}
 
 -- ---- words
 pub word_up : (ws : List ℕ) (t : Node) (j : ℕ) → number t < length ws → get_or (set ws (number t) (get_or ws (number t) 0 + 1)) j 0 ≡ get_or ws j 0 + is j t
@@ -184,6 +186,38 @@ module _ (w : State) (s : IsSound w) where
       (leaves_shared k (word_at w) word' t (roots w.views) (roots (set w.views v kept)) sound shrunk (omega arith) words))
       bound s.live))
 
+  keeps_mark : (v n : ℕ) (path : List ℕ) (changes : List (ℕ × Change)) → CanMark w v n path changes → IsSound (after (mark v n path changes) w)
+  keeps_mark v n path changes can = found (first n (holds_at w v)) refl can.fits
+    where
+      found : (o : Option Node) → first n (holds_at w v) ≡ o → FitsRoot (word_at w) o path changes (without n (holds_at w v)) → IsSound (after (mark v n path changes) w)
+      found None e fits = absurd fits
+      found (Some t) e fits =
+          let hs = holds_at w v in
+          let kept = without n hs in
+          let a = around w.views v can.view in
+          let rest = a.before ++ a.after in
+          let at = first_found n t hs e in
+          let end = edits changes (site t path kept) in
+          let parts : Parts hs (t ∷ []) kept = subst (λ (z : ℕ). Parts hs (t ∷ []) (without z hs)) at.1 (parts_without t hs at.0 (λ u i q. same_held v can.view u t i at.0 q)) in
+          let out : Shuffled hs (t ∷ kept) = record {
+            count = λ j. let q = parts.count j in omega arith;
+            to = λ x h. ⊎_elim (λ l. occurs_left x (t ∷ []) kept l) (λ r. occurs_right x (t ∷ []) kept r) (parts.out x h);
+            from = λ x h. ⊎_elim (λ l. parts.left x l) (λ r. parts.right x r) (occurs_split x (t ∷ []) kept h);
+          } in
+          let first_ : Sound (length w.words) (word_at w) (t ∷ (kept ++ rest)) = shuffled_sound (length w.words) (word_at w) (roots w.views) (t ∷ (kept ++ rest))
+              (shuffled_then (roots w.views) (hs ++ rest) (t ∷ (kept ++ rest)) (subst (λ (z : List Node). Shuffled z (hs ++ rest)) (sym a.now) (shuffled_between a.before hs a.after))
+              (shuffled_append hs (t ∷ kept) rest rest out (shuffled_refl rest))) (sound_of w s) in
+          let last = edits_sound (length w.words) changes (site t path kept) rest (word_at w) first_ fits.0 fits.1 in
+          let moved : set w.views v (holds_of end) ≡ (after (mark v n path changes) w).views = (λ i. set w.views v (edited_holds (sym e i) path changes kept)) in
+          subst (λ (z : List (List Node)). IsSound (with_views w z)) moved
+          (world_of (with_views w (set w.views v (holds_of end))) (length w.words) refl
+          (shuffled_sound (length w.words) (word_at w) (end.tree ∷ (end.holds ++ rest)) (roots (set w.views v (holds_of end)))
+          (shuffled_then (end.tree ∷ (end.holds ++ rest)) (holds_of end ++ rest) (roots (set w.views v (holds_of end)))
+          (shuffled_append (end.tree ∷ end.holds) (holds_of end) rest rest (shuffled_swap (end.tree ∷ []) end.holds) (shuffled_refl rest))
+          (subst (λ (z : List Node). Shuffled (holds_of end ++ rest) z) (sym (a.then (holds_of end))) (shuffled_back (a.before ++ (holds_of end ++ a.after)) (holds_of end ++ rest) (shuffled_between a.before (holds_of end) a.after))))
+          last)
+          s.words s.live)
+
   keeps_split : (v : ℕ) (places : List ℕ) → CanSplit w v places → IsSound (after (split v places) w)
   keeps_split v places can =
       let hs = holds_at w v in
@@ -218,6 +252,7 @@ step_sound (take v n t) w s can = keeps_take w s v n t can
 step_sound (share v n) w s can = keeps_share w s v n can
 step_sound (leave v n) w s can = keeps_leave w s v n can
 step_sound (look v n) w s can = s
+step_sound (mark v n path changes) w s can = keeps_mark w s v n path changes can
 step_sound (split v places) w s can = keeps_split w s v places can
 step_sound (merge v other) w s can = keeps_merge w s v other can
 step_sound (counted v) w s can = keeps_live w s (w.live + 1) (let l = can.1 in omega arith)

@@ -11,7 +11,7 @@ use Rattle.node_forest.specs.Counts.{first}
 use Rattle.node_forest.proofs.Members.{root_occurs}
 use Rattle.node_forest.proofs.Counts.{first_found}
 use Rattle.count_core.specs.Holders.{holders}
-use Rattle.count_core.specs.Steps.{State, Step, take, share, leave, look, split, merge, counted, uncounted, home, word_at, holds_at, roots, zeroes, nothing_held, start, CanStep, after, Does}
+use Rattle.count_core.specs.Steps.{State, Step, take, share, leave, look, mark, split, merge, counted, uncounted, home, word_at, holds_at, roots, zeroes, nothing_held, start, CanStep, after, Does}
 use Rattle.count_core.specs.Worlds.{IsSound}
 use Rattle.count_core.specs.Runs.{Moment, IsRun}
 use Rattle.count_core.specs.Lives.{Turn, taken, returned, turn_if, turn_of, turn_at, life, Alternate, ReturnsFree}
@@ -55,6 +55,7 @@ after_places (take v n t) w = length-set w.words n (word_at w n + 1)
 after_places (share v n) w = length-set w.words n (word_at w n + 1)
 after_places (leave v n) w = length-set w.words n (word_at w n - 1)
 after_places (look v n) w = refl
+after_places (mark v n path changes) w = refl
 after_places (split v places) w = refl
 after_places (merge v other) w = refl
 after_places (counted v) w = refl
@@ -142,6 +143,7 @@ turn_goes n (leave v m) w ts sound can a =
     subst (λ (b : Bool). Alternate (is_held w n) (turn_if (b && (word_at w m == 1)) returned ++ ts)) (sym (ne_eqb n m ne))
     (go_on (is_held w n) (is_held (after (leave v m) w) n) ts (ap (λ (z : ℕ). not (z == 0)) (sym (get_or-set_other w.words m n (word_at w m - 1) 0 ne))) a))
 turn_goes n (look v m) w ts sound can a = a
+turn_goes n (mark v m path changes) w ts sound can a = a
 turn_goes n (split v places) w ts sound can a = a
 turn_goes n (merge v other) w ts sound can a = a
 turn_goes n (counted v) w ts sound can a = a
@@ -179,6 +181,7 @@ turn_place n (leave v m) w can e =
     let c : turn_if (true && false) returned ≡ returned ∷ [] = subst (λ (b : Bool). turn_if (b && false) returned ≡ returned ∷ []) (eq-eqb n m same) b in cc)))
     (λ ne. absurd (let b : turn_if (false && (word_at w m == 1)) returned ≡ returned ∷ [] = subst (λ (b : Bool). turn_if (b && (word_at w m == 1)) returned ≡ returned ∷ []) (ne_eqb n m ne) e in cc))
 turn_place n (look v m) w can e = absurd (cc)
+turn_place n (mark v m path changes) w can e = absurd (cc)
 turn_place n (split v places) w can e = absurd (cc)
 turn_place n (merge v other) w can e = absurd (cc)
 turn_place n (counted v) w can e = absurd (cc)

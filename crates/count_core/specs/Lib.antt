@@ -6,6 +6,7 @@ pub mod Worlds
 pub mod Runs
 pub mod Lives
 pub mod Paths
+pub mod Marks
 pub mod Search
 pub mod TreeNode
 pub mod Terms

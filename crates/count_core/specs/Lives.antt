@@ -1,7 +1,7 @@
 -- The life of a number: its takes and its returns over a list of steps.
 use Rattle.std.specs.Prelude.{◌≡◌, ℕ, ◌==◌, ◌&&◌, Bool, true, false, eqb, List, [], ◌∷◌, ◌++◌}
 use Rattle.count_core.specs.Holders.{holders}
-use Rattle.count_core.specs.Steps.{State, Step, take, share, leave, look, split, merge, counted, uncounted, home, word_at, roots}
+use Rattle.count_core.specs.Steps.{State, Step, take, share, leave, look, mark, split, merge, counted, uncounted, home, word_at, roots}
 use Rattle.count_core.specs.Runs.{Moment}
 
 pub data Turn : Type 0 where
@@ -18,6 +18,7 @@ turn_of n (take v m t) w = turn_if (eqb n m) taken
 turn_of n (leave v m) w = turn_if (eqb n m && (word_at w m == 1)) returned
 turn_of n (share v m) w = []
 turn_of n (look v m) w = []
+turn_of n (mark v m path changes) w = []
 turn_of n (split v places) w = []
 turn_of n (merge v other) w = []
 turn_of n (counted v) w = []

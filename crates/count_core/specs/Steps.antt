@@ -3,6 +3,7 @@ use Rattle.std.specs.Prelude.{◌≡◌, ◌≢◌, ℕ, ◌+◌, ◌-◌, ◌^�
 use Rattle.node_forest.specs.Forest.{children, nodes_of}
 use Rattle.node_forest.specs.Label.{Node, number}
 use Rattle.node_forest.specs.Counts.{first}
+use Rattle.count_core.specs.Marks.{Change, NeverDeeper, FitsRoot, edited_holds}
 use Rattle.count_core.specs.Views.{without, without_all, AreHeld, passed_on, AreDifferent, AreBelow, moving, staying}
 
 -- the words of all numbers, the word of live passes, and what each token holds directly
@@ -28,6 +29,7 @@ pub data Step : Type 0 where
   share : ℕ → ℕ → Step
   leave : ℕ → ℕ → Step
   look : ℕ → ℕ → Step
+  mark : ℕ → ℕ → List ℕ → List (ℕ × Change) → Step
   split : ℕ → List ℕ → Step
   merge : ℕ → ℕ → Step
   counted : ℕ → Step
@@ -68,6 +70,13 @@ pub record CanLook (w : State) (v n : ℕ) : Type 0 where
   pub place : IsPlace w n
   pub seen : IsSeen w v n
 
+-- the path from the direct hold is lone, the depths are those of the path and never rise, and each change fits when it is done
+pub record CanMark (w : State) (v n : ℕ) (path : List ℕ) (changes : List (ℕ × Change)) : Type 0 where
+  pub view : IsView w v
+  pub place : IsPlace w n
+  pub order : NeverDeeper (length path) changes
+  pub fits : FitsRoot (word_at w) (first n (holds_at w v)) path changes (without n (holds_at w v))
+
 pub record CanSplit (w : State) (v : ℕ) (places : List ℕ) : Type 0 where
   pub view : IsView w v
   pub different : AreDifferent places
@@ -83,6 +92,7 @@ CanStep (take v n t) w = CanTake w v n t
 CanStep (share v n) w = CanShare w v n
 CanStep (leave v n) w = CanLeave w v n
 CanStep (look v n) w = CanLook w v n
+CanStep (mark v n path changes) w = CanMark w v n path changes
 CanStep (split v places) w = CanSplit w v places
 CanStep (merge v other) w = CanMerge w v other
 CanStep (counted v) w = IsView w v × (w.live < 2 ^ 32)
@@ -106,6 +116,7 @@ after (take v n t) w = changed w n (word_at w n + 1) v (without_all (children t)
 after (share v n) w = changed w n (word_at w n + 1) v (holds_at w v ++ option_to_list (first n (nodes_of (holds_at w v))))
 after (leave v n) w = changed w n (word_at w n - 1) v (without n (holds_at w v) ++ passed_on (word_at w n) (first n (holds_at w v)))
 after (look v n) w = w
+after (mark v n path changes) w = with_views w (slice_set w.views v (edited_holds (first n (holds_at w v)) path changes (without n (holds_at w v))))
 after (split v places) w = with_views w (slice_set w.views v (staying places 0 (holds_at w v)) ++ moving places 0 (holds_at w v) ∷ [])
 after (merge v other) w = with_views w (slice_set (slice_set w.views other []) v (holds_at w v ++ holds_at w other))
 after (counted v) w = with_live w (w.live + 1)

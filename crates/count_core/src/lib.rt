@@ -2,6 +2,9 @@
 //! one step at a time. The rule of shared nodes is proved here over every list of steps; the pool runs it on atomic words.
 #![tactic(auto)]
 
+mod change;
+mod edit;
+
 mod holders;
 mod laws;
 mod memory;
@@ -16,6 +19,7 @@ pub use laws::{
     every_run_keeps_counts, lone_paths_exclude_others, one_step_keeps_counts,
     takes_and_returns_alternate,
 };
+pub use change::{Side, TreeChange};
 pub use memory::Memory;
 pub use node_forest::Kind;
 pub use step::Step;

@@ -1,4 +1,5 @@
 //! The steps that a token can make.
+use crate::change::TreeChange;
 use crate::tree::Tree;
 
 /// One step of a token, by the place of its view. Each kind changes at most one word and two views; where a view holds
@@ -13,6 +14,9 @@ pub enum Step {
     Leave { view: u32, number: u32 },
     /// A word is read.
     Look { view: u32, number: u32 },
+    /// Changes in place on a lone path, which goes down from a direct hold by the places of edges. Each change stands with
+    /// its depth, the root's being 0. The root then stands last.
+    Mark { view: u32, number: u32, path: Vec<u8>, changes: Vec<(u8, TreeChange)> },
     /// The direct holds at these places move to a new view, which comes last. Moved or not, they keep their order.
     Split { view: u32, places: Vec<u32> },
     /// All direct holds of the second view move to the first.

@@ -1,8 +1,9 @@
 //! What a token holds directly.
-ghost use Rattle.std.specs.Prelude.{◌≡◌, ℕ, ◌+◌, ◌<◌, ◌≤◌, ◌↔◌, Bool, true, false, [], ◌∷◌, ◌++◌, length, IsTrue, IsSome, IfOk, OnOk, OnErr, MatchOption, None, slice_get, slice_index_or, remove, if◌then◌else◌};
+ghost use Rattle.std.specs.Prelude.{◌≡◌, ℕ, ◌+◌, ◌<◌, ◌≤◌, ◌↔◌, Bool, true, false, [], ◌∷◌, ◌++◌, length, IsTrue, IsSome, IfOk, OnOk, OnErr, MatchOption, None, Some, slice_get, slice_index_or, remove, if◌then◌else◌};
 ghost use Rattle.std.specs.Option.{option_copied};
 ghost use Rattle.node_forest.specs.Forest.{nodes_of};
 ghost use Rattle.node_forest.specs.Counts.{times, first};
+ghost use Rattle.count_core.specs.Marks.{CanPull, pulled, unpulled};
 ghost use Rattle.count_core.specs.Search.{IsNext};
 ghost use Rattle.count_core.specs.Views.{without, without_all, AreHeld, edges_of_one, AreDifferent, AreBelow, chosen, AreMarks};
 
@@ -41,7 +42,7 @@ impl View {
     }
 
     /// The first direct hold with the number.
-    fn direct(&self, number: u32) -> Option<&Tree>
+    pub(crate) fn direct(&self, number: u32) -> Option<&Tree>
         ensures { option_copied result ≡ first number self.now }
     {
         for tree in &self.holds {
@@ -153,6 +154,41 @@ impl View {
         Ok(())
     }
 
+    /// A copy without the first direct hold that has the number.
+    pub(crate) fn copied_without(&self, alloc: Global, number: u32) -> Result<View, Memory>
+        ensures { IfOk result (λ view. view ≡ without number self.now) }
+    {
+        let mut holds = Vec::new(alloc);
+        for tree in &self.holds {
+            holds.push(tree.copied(alloc)?)?;
+        }
+        let mut copy = View { holds };
+        copy.remove(number);
+        Ok(copy)
+    }
+
+    /// Takes out the first direct hold with each of the numbers in turn; none where one of them isn't held.
+    pub(crate) fn pull(&mut self, alloc: Global, numbers: &[u32]) -> Result<Option<Vec<Tree>>, Memory>
+        ensures { IfOk result (λ trees. MatchOption trees (CanPull numbers.now self.old → ⊥) (λ v. CanPull numbers.now self.old × (v.items ≡ pulled numbers.now self.old) × (self.new ≡ unpulled numbers.now self.old))) }
+    {
+        let mut out = Vec::new(alloc);
+        for number in numbers {
+            let Some(tree) = self.take(*number) else {
+                return Ok(None);
+            };
+            out.push(tree)?;
+        }
+        Ok(Some(out))
+    }
+
+    /// Takes the first direct hold with the number.
+    fn take(&mut self, number: u32) -> Option<Tree>
+        ensures { MatchOption result (first number self.old ≡ None) (λ tree. (first number self.old ≡ Some tree) × (self.new ≡ without number self.old)) }
+    {
+        let i = self.place_of(number)?;
+        Some(self.holds.remove(i))
+    }
+
     /// Direct holds become the children of a new last hold.
     pub(crate) fn close(&mut self, children: &[Tree], tree: Tree) -> Result<(), Memory>
         requires { AreHeld children.now self.old }
@@ -178,6 +214,14 @@ impl View {
             }
         }
         Ok(part)
+    }
+
+    /// The trees become direct holds, behind these.
+    pub(crate) fn gain(&mut self, mut trees: Vec<Tree>) -> Result<(), Memory>
+        ensures { OnOk result (self.new ≡ self.old ++ trees.items) }
+    {
+        self.holds.append(&mut trees)?;
+        Ok(())
     }
 
     /// All holds of the other view move behind these.

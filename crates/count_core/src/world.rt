@@ -1,8 +1,10 @@
 //! A world of counted nodes, and its steps.
 ghost use Rattle.std.specs.Prelude.{◌≡◌, ℕ, ◌+◌, ◌<◌, ◌≤◌, ◌^◌, ◌↔◌, [], ◌∷◌, ◌++◌, length, IsTrue, IfOk, OnErr};
-ghost use Rattle.count_core.specs.Steps.{CanTake, CanStep, Does, start, take, share, leave, look, split, merge, counted, uncounted, home};
-ghost use Rattle.count_core.specs.Terms.{state_of, step_of};
+ghost use Rattle.count_core.specs.Steps.{CanTake, CanStep, Does, start, take, share, leave, look, mark, split, merge, counted, uncounted, home};
+ghost use Rattle.count_core.specs.Terms.{state_of, step_of, changes_of};
 
+use crate::change::TreeChange;
+use crate::edit::{edits, is_lone, never_deeper, places_of};
 use crate::memory::Memory;
 use crate::step::Step;
 use crate::tree::Tree;
@@ -48,6 +50,12 @@ impl World {
             Step::Share { view, number } => self.share(alloc, *view, *number),
             Step::Leave { view, number } => self.leave(*view, *number),
             Step::Look { view, number } => Ok(self.can_look(*view, *number)),
+            Step::Mark {
+                view,
+                number,
+                path,
+                changes,
+            } => self.mark(alloc, *view, *number, path, changes),
             Step::Split { view, places } => self.split(alloc, *view, places),
             Step::Merge { view, other } => self.merge(alloc, *view, *other),
             Step::Counted { view } => Ok(self.counted(*view)),
@@ -130,6 +138,30 @@ impl World {
         ensures { IsTrue result ↔ CanStep (look view number) (state_of self.now) }
     {
         self.has_view(view) && self.has_place(number) && self.views[view as usize].sees(number)
+    }
+
+    fn mark(&mut self, alloc: Global, view: u32, number: u32, path: &[u8], changes: &[(u8, TreeChange)]) -> Result<bool, Memory>
+        ensures done { IfOk result (λ done. Does (mark view number path.now (changes_of changes.now)) (state_of self.old) done (state_of self.new)) }
+        ensures err { OnErr result (state_of self.new ≡ state_of self.old) }
+    {
+        if !self.has_view(view) || !self.has_place(number) || !never_deeper(changes, path.len()) {
+            return Ok(false);
+        }
+        let own = &self.views[view as usize];
+        let Some(root) = own.direct(number) else {
+            return Ok(false);
+        };
+        if !is_lone(&self.words, root, path) {
+            return Ok(false);
+        }
+        let tree = root.copied(alloc)?;
+        let path = places_of(alloc, path)?;
+        let holds = own.copied_without(alloc, number)?;
+        let Some(edited) = edits(alloc, tree, path, holds, changes)? else {
+            return Ok(false);
+        };
+        self.views[view as usize] = edited;
+        Ok(true)
     }
 
     fn split(&mut self, alloc: Global, view: u32, places: &[u32]) -> Result<bool, Memory>
