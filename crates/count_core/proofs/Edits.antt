@@ -8,7 +8,7 @@ use Rattle.node_forest.specs.Label.{Node, number}
 use Rattle.node_forest.specs.Members.{In, Occurs}
 use Rattle.node_forest.specs.Counts.{is, times, first}
 use Rattle.node_forest.proofs.Maps.{trees-forest}
-use Rattle.node_forest.proofs.Members.{root_occurs, occurs_split, occurs_left, occurs_right, child_occurs, alone_in}
+use Rattle.node_forest.proofs.Members.{in_left, in_right, in_split, root_occurs, occurs_split, occurs_left, occurs_right, child_occurs, alone_in}
 use Rattle.node_forest.proofs.Counts.{times_append, is_one, is_none, first_hit, first_miss}
 use Rattle.count_core.specs.Sound.{Sound, Parts}
 use Rattle.count_core.specs.Views.{without}
@@ -23,18 +23,20 @@ pub record Shuffled (a b : List Node) : Type 0 where
   pub count : (n : ℕ) → times n a ≡ times n b
   pub to : (x : Node) → Occurs x a → Occurs x b
   pub from : (x : Node) → Occurs x b → Occurs x a
+  pub tops : (x : Node) → In x a → In x b
+  pub tops_from : (x : Node) → In x b → In x a
 
 pub shuffled_sound : (size : ℕ) (word : ℕ → ℕ) (a b : List Node) → Shuffled a b → Sound size word a → Sound size word b
 shuffled_sound size word a b f s = stays size word word a b s f.from f.to (λ n l. let e = f.count n in omega arith)
 
 pub shuffled_refl : (a : List Node) → Shuffled a a
-shuffled_refl a = record { count = λ n. refl; to = λ x h. h; from = λ x h. h }
+shuffled_refl a = record { count = λ n. refl; to = λ x h. h; from = λ x h. h; tops = λ x h. h; tops_from = λ x h. h }
 
 pub shuffled_then : (a b c : List Node) → Shuffled a b → Shuffled b c → Shuffled a c
-shuffled_then a b c p q = record { count = λ n. p.count n ∙ q.count n; to = λ x h. q.to x (p.to x h); from = λ x h. p.from x (q.from x h) }
+shuffled_then a b c p q = record { count = λ n. p.count n ∙ q.count n; to = λ x h. q.to x (p.to x h); from = λ x h. p.from x (q.from x h); tops = λ x h. q.tops x (p.tops x h); tops_from = λ x h. p.tops_from x (q.tops_from x h) }
 
 pub shuffled_back : (a b : List Node) → Shuffled a b → Shuffled b a
-shuffled_back a b p = record { count = λ n. sym (p.count n); to = p.from; from = p.to }
+shuffled_back a b p = record { count = λ n. sym (p.count n); to = p.from; from = p.to; tops = p.tops_from; tops_from = p.tops }
 
 pub shuffled_along : (a b : List Node) → a ≡ b → Shuffled a b
 shuffled_along a b e = subst (λ (z : List Node). Shuffled a z) e (shuffled_refl a)
@@ -44,6 +46,8 @@ shuffled_append a b c d p q = record {
   count = λ n. let x = times_append n a c in let y = times_append n b d in let e = p.count n in let f = q.count n in omega arith;
   to = λ x h. ⊎_elim (λ l. occurs_left x b d (p.to x l)) (λ r. occurs_right x b d (q.to x r)) (occurs_split x a c h);
   from = λ x h. ⊎_elim (λ l. occurs_left x a c (p.from x l)) (λ r. occurs_right x a c (q.from x r)) (occurs_split x b d h);
+  tops = λ x h. ⊎_elim (λ l. in_left x b d (p.tops x l)) (λ r. in_right x b d (q.tops x r)) (in_split x a c h);
+  tops_from = λ x h. ⊎_elim (λ l. in_left x a c (p.tops_from x l)) (λ r. in_right x a c (q.tops_from x r)) (in_split x b d h);
 }
 
 pub shuffled_swap : (a b : List Node) → Shuffled (a ++ b) (b ++ a)
@@ -51,6 +55,8 @@ shuffled_swap a b = record {
   count = λ n. let x = times_append n a b in let y = times_append n b a in omega arith;
   to = λ x h. ⊎_elim (λ l. occurs_right x b a l) (λ r. occurs_left x b a r) (occurs_split x a b h);
   from = λ x h. ⊎_elim (λ l. occurs_right x a b l) (λ r. occurs_left x a b r) (occurs_split x b a h);
+  tops = λ x h. ⊎_elim (λ l. in_right x b a l) (λ r. in_left x b a r) (in_split x a b h);
+  tops_from = λ x h. ⊎_elim (λ l. in_right x a b l) (λ r. in_left x a b r) (in_split x b a h);
 }
 
 -- a list between two others
@@ -61,7 +67,7 @@ shuffled_between before hs behind =
     (shuffled_along ((hs ++ before) ++ behind) (hs ++ (before ++ behind)) (append_assoc hs before behind)))
 
 -- ---- edges and holds change places
-shuffled_without : (m : ℕ) (hs : List Node) (t : Node) → first m hs ≡ Some t → Shuffled hs (t ∷ without m hs)
+pub shuffled_without : (m : ℕ) (hs : List Node) (t : Node) → first m hs ≡ Some t → Shuffled hs (t ∷ without m hs)
 shuffled_without m [] t e = absurd (cc)
 shuffled_without m (x ∷ xs) t e =
     dite (ℕ_discrete (number x) m)
@@ -89,23 +95,18 @@ shuffled_kids : (side : Side) (count : ℕ) (kids : List Node) → Shuffled kids
 shuffled_kids front count kids = shuffled_then kids (take count kids ++ drop count kids) (drop count kids ++ take count kids) (shuffled_along kids (take count kids ++ drop count kids) (sym (take-append-drop count kids))) (shuffled_swap (take count kids) (drop count kids))
 shuffled_kids back count kids = shuffled_along kids (take (length kids - count) kids ++ drop (length kids - count) kids) (sym (take-append-drop (length kids - count) kids))
 
-shuffled_joined : (side : Side) (new kids : List Node) → Shuffled (new ++ kids) (joined side new kids)
+pub shuffled_joined : (side : Side) (new kids : List Node) → Shuffled (new ++ kids) (joined side new kids)
 shuffled_joined front new kids = shuffled_refl (new ++ kids)
 shuffled_joined back new kids = shuffled_swap new kids
 
 -- four lists, the middle two exchanged
-shuffled_middle : (p u r o : List Node) → Shuffled ((p ++ u) ++ (r ++ o)) ((u ++ o) ++ (p ++ r))
-shuffled_middle p u r o = record {
-  count = λ n. let a = times_append n (p ++ u) (r ++ o) in let b = times_append n p u in let c = times_append n r o in let d = times_append n (u ++ o) (p ++ r) in let e = times_append n u o in let f = times_append n p r in omega arith;
-  to = λ x h. ⊎_elim
-      (λ l. ⊎_elim (λ a. occurs_right x (u ++ o) (p ++ r) (occurs_left x p r a)) (λ b. occurs_left x (u ++ o) (p ++ r) (occurs_left x u o b)) (occurs_split x p u l))
-      (λ q. ⊎_elim (λ a. occurs_right x (u ++ o) (p ++ r) (occurs_right x p r a)) (λ b. occurs_left x (u ++ o) (p ++ r) (occurs_right x u o b)) (occurs_split x r o q))
-      (occurs_split x (p ++ u) (r ++ o) h);
-  from = λ x h. ⊎_elim
-      (λ l. ⊎_elim (λ a. occurs_left x (p ++ u) (r ++ o) (occurs_right x p u a)) (λ b. occurs_right x (p ++ u) (r ++ o) (occurs_right x r o b)) (occurs_split x u o l))
-      (λ q. ⊎_elim (λ a. occurs_left x (p ++ u) (r ++ o) (occurs_left x p u a)) (λ b. occurs_right x (p ++ u) (r ++ o) (occurs_left x r o b)) (occurs_split x p r q))
-      (occurs_split x (u ++ o) (p ++ r) h);
-}
+pub shuffled_middle : (p u r o : List Node) → Shuffled ((p ++ u) ++ (r ++ o)) ((u ++ o) ++ (p ++ r))
+shuffled_middle p u r o =
+    shuffled_then ((p ++ u) ++ (r ++ o)) ((u ++ p) ++ (o ++ r)) ((u ++ o) ++ (p ++ r)) (shuffled_append (p ++ u) (u ++ p) (r ++ o) (o ++ r) (shuffled_swap p u) (shuffled_swap r o))
+    (shuffled_then ((u ++ p) ++ (o ++ r)) (u ++ (o ++ (p ++ r))) ((u ++ o) ++ (p ++ r))
+    (shuffled_then ((u ++ p) ++ (o ++ r)) (u ++ (p ++ (o ++ r))) (u ++ (o ++ (p ++ r))) (shuffled_along ((u ++ p) ++ (o ++ r)) (u ++ (p ++ (o ++ r))) (append_assoc u p (o ++ r)))
+    (shuffled_append u u (p ++ (o ++ r)) (o ++ (p ++ r)) (shuffled_refl u) (shuffled_between p o r)))
+    (shuffled_along (u ++ (o ++ (p ++ r))) ((u ++ o) ++ (p ++ r)) (sym (append_assoc u o (p ++ r)))))
 
 -- the holds and the edges of a branch are the same trees before and after
 pub shuffled_exchange : (side : Side) (count : ℕ) (ms : List ℕ) (t : Node) (hs : List Node) → CanPull ms hs
@@ -179,9 +180,9 @@ kid_out (k ∷ ks) (suc p) d l =
     let c = get_or ks p d in (
       k ∷ r.0,
       shuffled_then (k ∷ ks) (k ∷ (c ∷ r.0)) (c ∷ (k ∷ r.0)) (shuffled_append (k ∷ []) (k ∷ []) ks (c ∷ r.0) (shuffled_refl (k ∷ [])) r.1)
-      (shuffled_append (k ∷ c ∷ []) (c ∷ k ∷ []) r.0 r.0 (shuffled_swap (k ∷ []) (c ∷ [])) (shuffled_refl r.0)),
+          (shuffled_append (k ∷ c ∷ []) (c ∷ k ∷ []) r.0 r.0 (shuffled_swap (k ∷ []) (c ∷ [])) (shuffled_refl r.0)),
       λ u. shuffled_then (u ∷ (k ∷ r.0)) (k ∷ (u ∷ r.0)) (k ∷ set ks p u) (shuffled_append (u ∷ k ∷ []) (k ∷ u ∷ []) r.0 r.0 (shuffled_swap (u ∷ []) (k ∷ [])) (shuffled_refl r.0))
-      (shuffled_append (k ∷ []) (k ∷ []) (u ∷ r.0) (set ks p u) (shuffled_refl (k ∷ [])) (r.2 u)),
+          (shuffled_append (k ∷ []) (k ∷ []) (u ∷ r.0) (set ks p u) (shuffled_refl (k ∷ [])) (r.2 u)),
     )
 
 -- the words of a path's nodes are those below an open node
@@ -255,18 +256,18 @@ get_take [] more (suc c) i d e l m = absurd (omega arith)
 get_take (x ∷ xs) more (suc c) zero d e l m = refl
 get_take (x ∷ xs) more (suc c) (suc i) d e l m = get_take xs more c i d e (omega arith) (omega arith)
 
-length_taken : (xs : List Node) (c : ℕ) → c ≤ length xs → length (take c xs) ≡ c
+pub length_taken : (xs : List Node) (c : ℕ) → c ≤ length xs → length (take c xs) ≡ c
 length_taken xs zero l = refl
 length_taken [] (suc c) l = absurd (omega arith)
 length_taken (x ∷ xs) (suc c) l = let r = length_taken xs c (omega arith) in omega arith
 
-length_dropped : (xs : List Node) (c : ℕ) → c ≤ length xs → length (drop c xs) + c ≡ length xs
+pub length_dropped : (xs : List Node) (c : ℕ) → c ≤ length xs → length (drop c xs) + c ≡ length xs
 length_dropped xs zero l = omega arith
 length_dropped [] (suc c) l = absurd (omega arith)
 length_dropped (x ∷ xs) (suc c) l = let r = length_dropped xs c (omega arith) in omega arith
 
 -- the path's child is the same node at its new place
-kept_front : (new kids : List Node) (count p : ℕ) (d e : Node) → count ≤ p → p < length kids → (p - count + length new < length (new ++ drop count kids)) × (get_or (new ++ drop count kids) (p - count + length new) d ≡ get_or kids p e)
+pub kept_front : (new kids : List Node) (count p : ℕ) (d e : Node) → count ≤ p → p < length kids → (p - count + length new < length (new ++ drop count kids)) × (get_or (new ++ drop count kids) (p - count + length new) d ≡ get_or kids p e)
 kept_front new kids count p d e l m =
     let long = length-append new (drop count kids) in
     let rest = length_dropped kids count (omega arith) in (
@@ -274,7 +275,7 @@ kept_front new kids count p d e l m =
       get_append new (drop count kids) (p - count) d ∙ (get_drop kids count (p - count) d ∙ (ap (λ (k : ℕ). get_or kids k d) (let q : p - count + count ≡ p = omega arith in q) ∙ default_same kids p d e m)),
     )
 
-kept_back : (new kids : List Node) (count p : ℕ) (d e : Node) → p < length kids - count → (p < length (take (length kids - count) kids ++ new)) × (get_or (take (length kids - count) kids ++ new) p d ≡ get_or kids p e)
+pub kept_back : (new kids : List Node) (count p : ℕ) (d e : Node) → p < length kids - count → (p < length (take (length kids - count) kids ++ new)) × (get_or (take (length kids - count) kids ++ new) p d ≡ get_or kids p e)
 kept_back new kids count p d e l =
     let long = length-append (take (length kids - count) kids) new in
     let taken = length_taken kids (length kids - count) (omega arith) in (
@@ -291,17 +292,23 @@ edit_lone (exchange front count ms) zero t (p ∷ ps) hs word lone fits =
     let kids = children t in
     let u = (edit (exchange front count ms) zero t (p ∷ ps) hs).tree in
     let is = trees-forest (new ++ drop count kids) in
-    let k = kept_front new kids count p u t fits.0.keeps.0 fits.0.keeps.1 in
-    (lone.0, lone.1, subst (λ (z : List Node). p - count + length new < length z) (sym is) k.0,
-    subst (λ (z : Node). LonePath word z ps) (sym (ap (λ (z : List Node). get_or z (p - count + length new) u) is ∙ k.1)) lone.3)
+    let k = kept_front new kids count p u t fits.0.keeps.0 fits.0.keeps.1 in (
+      lone.0,
+      lone.1,
+      subst (λ (z : List Node). p - count + length new < length z) (sym is) k.0,
+      subst (λ (z : Node). LonePath word z ps) (sym (ap (λ (z : List Node). get_or z (p - count + length new) u) is ∙ k.1)) lone.3,
+    )
 edit_lone (exchange back count ms) zero t (p ∷ ps) hs word lone fits =
     let new = pulled ms hs in
     let kids = children t in
     let u = (edit (exchange back count ms) zero t (p ∷ ps) hs).tree in
     let is = trees-forest (take (length kids - count) kids ++ new) in
-    let k = kept_back new kids count p u t fits.0.keeps in
-    (lone.0, lone.1, subst (λ (z : List Node). p < length z) (sym is) k.0,
-    subst (λ (z : Node). LonePath word z ps) (sym (ap (λ (z : List Node). get_or z p u) is ∙ k.1)) lone.3)
+    let k = kept_back new kids count p u t fits.0.keeps in (
+      lone.0,
+      lone.1,
+      subst (λ (z : List Node). p < length z) (sym is) k.0,
+      subst (λ (z : Node). LonePath word z ps) (sym (ap (λ (z : List Node). get_or z p u) is ∙ k.1)) lone.3,
+    )
 edit_lone c (suc d) t [] hs word lone fits = absurd fits
 edit_lone c (suc d) t (p ∷ ps) hs word lone fits =
     let s' = edit c d (child_of t p) ps hs in
@@ -309,9 +316,12 @@ edit_lone c (suc d) t (p ∷ ps) hs word lone fits =
     let u = (raised t p s').tree in
     let is = trees-forest kids in
     let wide : p < length kids = (let e = length-set (children t) p s'.tree in let l = lone.2 in omega arith) in
-    let same : child_of u p ≡ s'.tree = ap (λ (z : List Node). get_or z p u) is ∙ get_or-set_same (children t) p s'.tree u lone.2 in
-    (lone.0, lone.1, subst (λ (z : List Node). p < length z) (sym is) wide,
-    subst (λ (z : Node). LonePath word z s'.path) (sym same) (edit_lone c d (child_of t p) ps hs word lone.3 fits.1))
+    let same : child_of u p ≡ s'.tree = ap (λ (z : List Node). get_or z p u) is ∙ get_or-set_same (children t) p s'.tree u lone.2 in (
+      lone.0,
+      lone.1,
+      subst (λ (z : List Node). p < length z) (sym is) wide,
+      subst (λ (z : Node). LonePath word z s'.path) (sym same) (edit_lone c d (child_of t p) ps hs word lone.3 fits.1),
+    )
 
 -- ---- a list of changes
 pub edits_sound : (size : ℕ) (cs : List (ℕ × Change)) (s : Site) (others : List Node) (word : ℕ → ℕ) → Sound size word (s.tree ∷ (s.holds ++ others)) → LonePath word s.tree s.path → FitEach cs s

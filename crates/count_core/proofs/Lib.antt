@@ -14,3 +14,4 @@ pub mod Moves
 pub mod Search
 pub mod Runs
 pub mod LonePaths
+pub mod Whole

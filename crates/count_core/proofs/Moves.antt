@@ -19,7 +19,7 @@ use Rattle.count_core.specs.Worlds.{IsSound}
 use Rattle.count_core.proofs.DifferentNumbers.{holders_below-holders}
 use Rattle.count_core.proofs.Parts.{parts_last}
 use Rattle.count_core.proofs.Counting.{stays, shares, takes, leaves_last, leaves_shared, has_holder}
-use Rattle.count_core.proofs.Edits.{Shuffled, shuffled_sound, shuffled_then, shuffled_append, shuffled_refl, shuffled_back, shuffled_swap, shuffled_between, edits_sound}
+use Rattle.count_core.proofs.Edits.{Shuffled, shuffled_sound, shuffled_then, shuffled_append, shuffled_refl, shuffled_back, shuffled_swap, shuffled_between, shuffled_without, edits_sound}
 use Rattle.count_core.proofs.Around.{around, seen_occurs, grows, shrinks, turns, parts_without, in_without, parts_join, parts_none, parts_moving}
 
 -- ---- words
@@ -196,17 +196,11 @@ module _ (w : State) (s : IsSound w) where
           let kept = without n hs in
           let a = around w.views v can.view in
           let rest = a.before ++ a.after in
-          let at = first_found n t hs e in
           let end = edits changes (site t path kept) in
-          let parts : Parts hs (t ∷ []) kept = subst (λ (z : ℕ). Parts hs (t ∷ []) (without z hs)) at.1 (parts_without t hs at.0 (λ u i q. same_held v can.view u t i at.0 q)) in
-          let out : Shuffled hs (t ∷ kept) = record {
-            count = λ j. let q = parts.count j in omega arith;
-            to = λ x h. ⊎_elim (λ l. occurs_left x (t ∷ []) kept l) (λ r. occurs_right x (t ∷ []) kept r) (parts.out x h);
-            from = λ x h. ⊎_elim (λ l. parts.left x l) (λ r. parts.right x r) (occurs_split x (t ∷ []) kept h);
-          } in
+          let out : Shuffled hs (t ∷ kept) = shuffled_without n hs t e in
           let first_ : Sound (length w.words) (word_at w) (t ∷ (kept ++ rest)) = shuffled_sound (length w.words) (word_at w) (roots w.views) (t ∷ (kept ++ rest))
-              (shuffled_then (roots w.views) (hs ++ rest) (t ∷ (kept ++ rest)) (subst (λ (z : List Node). Shuffled z (hs ++ rest)) (sym a.now) (shuffled_between a.before hs a.after))
-              (shuffled_append hs (t ∷ kept) rest rest out (shuffled_refl rest))) (sound_of w s) in
+          (shuffled_then (roots w.views) (hs ++ rest) (t ∷ (kept ++ rest)) (subst (λ (z : List Node). Shuffled z (hs ++ rest)) (sym a.now) (shuffled_between a.before hs a.after))
+          (shuffled_append hs (t ∷ kept) rest rest out (shuffled_refl rest))) (sound_of w s) in
           let last = edits_sound (length w.words) changes (site t path kept) rest (word_at w) first_ fits.0 fits.1 in
           let moved : set w.views v (holds_of end) ≡ (after (mark v n path changes) w).views = (λ i. set w.views v (edited_holds (sym e i) path changes kept)) in
           subst (λ (z : List (List Node)). IsSound (with_views w z)) moved

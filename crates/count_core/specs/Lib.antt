@@ -3,6 +3,7 @@ pub mod Sound
 pub mod Views
 pub mod Steps
 pub mod Worlds
+pub mod MarkLaws
 pub mod Runs
 pub mod Lives
 pub mod Paths

@@ -164,3 +164,22 @@ holds_of s = s.holds ++ s.tree ∷ []
 abbrev pub edited_holds : Option Node → List ℕ → List (ℕ × Change) → List Node → List Node
 edited_holds None path changes hs = hs
 edited_holds (Some t) path changes hs = holds_of (edits changes (record { tree = t; path = path; holds = hs }))
+
+-- ---- what stands beside the path, and on it
+-- the list without the place
+abbrev pub all_but : ℕ → List Node → List Node
+all_but p ts = take p ts ++ drop (suc p) ts
+
+-- the edges of the path's nodes that aren't on it
+abbrev pub beside : Node → List ℕ → List Node
+beside t [] = children t
+beside t (p ∷ ps) = all_but p (children t) ++ beside (child_of t p) ps
+
+-- the direct holds and the edges beside the path: the trees that changes move
+abbrev pub loose : Site → List Node
+loose s = s.holds ++ beside s.tree s.path
+
+-- the numbers of the path's nodes, from the root down
+abbrev pub numbers_on : Node → List ℕ → List ℕ
+numbers_on t [] = number t ∷ []
+numbers_on t (p ∷ ps) = number t ∷ numbers_on (child_of t p) ps

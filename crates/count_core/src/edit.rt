@@ -4,14 +4,13 @@ ghost use Rattle.node_forest.specs.Label.{Node};
 ghost use Rattle.count_core.specs.Marks.{exchange, resized, FitsFlat, edited, edit, edits, holds_of, total, Fits, FitsBranch, FitsAt, FitEach, AreShort, NeverDeeper, LonePath, joined, remaining, outgoing, KeepsChild, path_after, child_of, site};
 ghost use Rattle.count_core.specs.Terms.{change_of, changes_of, side_of};
 
-use node_forest::Kind;
-use std::alloc::Global;
-use std::mem;
-
 use crate::change::{Side, TreeChange};
 use crate::memory::Memory;
 use crate::tree::Tree;
 use crate::view::View;
+use node_forest::Kind;
+use std::alloc::Global;
+use std::mem;
 
 /// Lengths on a path that is edited stay below this.
 const LENGTH_LIMIT: u64 = 1 << 63;
@@ -122,7 +121,12 @@ fn keeps_child(side: Side, count: usize, edges: usize, path: &[usize]) -> bool
 }
 
 /// The edges of a branch after so many went at the side and these came there, and those that went.
-fn exchanged(mut old: Vec<Tree>, mut new: Vec<Tree>, side: Side, count: usize) -> Result<(Vec<Tree>, Vec<Tree>), Memory>
+fn exchanged(
+    mut old: Vec<Tree>,
+    mut new: Vec<Tree>,
+    side: Side,
+    count: usize,
+) -> Result<(Vec<Tree>, Vec<Tree>), Memory>
     requires { count ≤ length old.items }
     ensures { IfOk result (λ lists. (lists.0.items ≡ joined (side_of side) new.items (remaining (side_of side) count old.items)) × (lists.1.items ≡ outgoing (side_of side) count old.items)) }
 {
@@ -193,14 +197,36 @@ fn new_place(side: Side, count: usize, edges: usize, new: usize, path: &[usize])
 }
 
 /// One change at the node itself, as `exchange`.
-fn edit_here(alloc: Global, tree: &mut Tree, path: &[usize], holds: &mut View, change: &TreeChange) -> Result<Option<usize>, Memory>
+fn edit_here(
+    alloc: Global,
+    tree: &mut Tree,
+    path: &[usize],
+    holds: &mut View,
+    change: &TreeChange,
+) -> Result<Option<usize>, Memory>
     ensures { IfOk result (λ done. MatchOption done (Fits (change_of change.now) tree.old path.now holds.old → ⊥) (λ place. Fits (change_of change.now) tree.old path.now holds.old × (site tree.new (slice_set path.now 0 place) holds.new ≡ edited (change_of change.now) tree.old path.now holds.old))) }
 {
     match change {
         TreeChange::Length { length } => Ok(resize(tree, path, *length)),
         TreeChange::Add { side, numbers } => exchange(alloc, tree, path, holds, *side, 0, numbers),
-        TreeChange::Drop { side, count } => exchange(alloc, tree, path, holds, *side, *count as usize, &[]),
-        TreeChange::Swap { side, number } => exchange(alloc, tree, path, holds, *side, 1, &[*number]),
+        TreeChange::Drop { side, count } => exchange(
+            alloc,
+            tree,
+            path,
+            holds,
+            *side,
+            *count as usize,
+            &[],
+        ),
+        TreeChange::Swap { side, number } => exchange(
+            alloc,
+            tree,
+            path,
+            holds,
+            *side,
+            1,
+            &[*number],
+        ),
     }
 }
 
@@ -243,10 +269,10 @@ fn edit(
     let Some(new_place) = edit(alloc, child, rest, holds, depth - 1, change)? else {
         return Ok(None);
     };
-    let Some(length) = total(&tree.children) else {
+    let Some(sum) = total(&tree.children) else {
         return Ok(None);
     };
-    tree.length = length;
+    tree.length = sum;
     Ok(Some(new_place))
 }
 

@@ -2,7 +2,9 @@
 ghost use Rattle.std.specs.Prelude.{◌≡◌, ◌≢◌, ℕ, ◌<◌, Bool, false, List, length, Some};
 ghost use Rattle.node_forest.specs.Label.{Node, number};
 ghost use Rattle.node_forest.specs.Members.{In, Occurs};
-ghost use Rattle.count_core.specs.Steps.{State, Step, Does, holds_at, start};
+ghost use Rattle.count_core.specs.Marks.{Change};
+ghost use Rattle.count_core.specs.MarkLaws.{MovesWholeTrees};
+ghost use Rattle.count_core.specs.Steps.{State, Step, CanStep, Does, after, holds_at, start, mark};
 ghost use Rattle.count_core.specs.Worlds.{IsSound};
 ghost use Rattle.count_core.specs.Runs.{Moment, IsRun};
 ghost use Rattle.count_core.specs.Lives.{life, Alternate, ReturnsFree};
@@ -25,6 +27,13 @@ pub fn every_run_keeps_counts()
 pub fn takes_and_returns_alternate()
     ensures alternate { (numbers workers : ℕ) (moments : List Moment) (x : State) → IsRun (start numbers workers) moments x → (n : ℕ) → Alternate false (life n moments) }
     ensures free { (numbers workers : ℕ) (moments : List Moment) (x : State) → IsRun (start numbers workers) moments x → (n : ℕ) → ReturnsFree n moments }
+{}
+
+/// Changes in place leave all other views as they are, and in their own view they move whole trees between the direct holds
+/// and the edges beside the path. The numbers on the path stay.
+pub fn marks_move_whole_trees()
+    ensures others { (w : State) (v n : ℕ) (path : List ℕ) (changes : List (ℕ × Change)) → CanStep (mark v n path changes) w → (other : ℕ) → other ≢ v → holds_at (after (mark v n path changes) w) other ≡ holds_at w other }
+    ensures moved { (w : State) (v n : ℕ) (path : List ℕ) (changes : List (ℕ × Change)) → CanStep (mark v n path changes) w → MovesWholeTrees w (after (mark v n path changes) w) v n path }
 {}
 
 /// Where a view holds a tree directly and the word of each node of a path from its root is 1, none of these numbers occurs

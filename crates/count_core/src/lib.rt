@@ -4,7 +4,6 @@
 
 mod change;
 mod edit;
-
 mod holders;
 mod laws;
 mod memory;
@@ -15,11 +14,11 @@ mod tree;
 mod view;
 mod world;
 
-pub use laws::{
-    every_run_keeps_counts, lone_paths_exclude_others, one_step_keeps_counts,
-    takes_and_returns_alternate,
-};
 pub use change::{Side, TreeChange};
+pub use laws::{
+    every_run_keeps_counts, lone_paths_exclude_others, marks_move_whole_trees,
+    one_step_keeps_counts, takes_and_returns_alternate,
+};
 pub use memory::Memory;
 pub use node_forest::Kind;
 pub use step::Step;

@@ -7,24 +7,54 @@ use crate::tree::Tree;
 #[derive(Debug, Drop)]
 pub enum Step {
     /// A free number is taken: direct holds become the children of a new direct hold, which is the tree.
-    Take { view: u32, number: u32, tree: Tree },
+    Take {
+        view: u32,
+        number: u32,
+        tree: Tree,
+    },
     /// One direct hold more of a number that occurs in a tree of the view.
-    Share { view: u32, number: u32 },
+    Share {
+        view: u32,
+        number: u32,
+    },
     /// A direct hold goes; the last leaver of a number gets its children as direct holds.
-    Leave { view: u32, number: u32 },
+    Leave {
+        view: u32,
+        number: u32,
+    },
     /// A word is read.
-    Look { view: u32, number: u32 },
+    Look {
+        view: u32,
+        number: u32,
+    },
     /// Changes in place on a lone path, which goes down from a direct hold by the places of edges. Each change stands with
     /// its depth, the root's being 0. The root then stands last.
-    Mark { view: u32, number: u32, path: Vec<u8>, changes: Vec<(u8, TreeChange)> },
+    Mark {
+        view: u32,
+        number: u32,
+        path: Vec<u8>,
+        changes: Vec<(u8, TreeChange)>,
+    },
     /// The direct holds at these places move to a new view, which comes last. Moved or not, they keep their order.
-    Split { view: u32, places: Vec<u32> },
+    Split {
+        view: u32,
+        places: Vec<u32>,
+    },
     /// All direct holds of the second view move to the first.
-    Merge { view: u32, other: u32 },
+    Merge {
+        view: u32,
+        other: u32,
+    },
     /// One live pass more.
-    Counted { view: u32 },
+    Counted {
+        view: u32,
+    },
     /// One live pass less.
-    Uncounted { view: u32 },
+    Uncounted {
+        view: u32,
+    },
     /// A releaser's slot is given back.
-    Home { view: u32 },
+    Home {
+        view: u32,
+    },
 }

@@ -1,4 +1,5 @@
 //! Steps on small worlds, by their answers and their words.
+use crate::change::{Side, TreeChange};
 use crate::memory::Memory;
 use crate::step::Step;
 use crate::tree::Tree;
@@ -139,12 +140,115 @@ fn impossible_steps_are_refused(rt: HostRuntime) -> Result<(), Fail> {
     Ok(())
 }
 
+/// One change at a depth.
+fn change(alloc: Global, depth: u8, change: TreeChange) -> Result<Vec<(u8, TreeChange)>, Memory> {
+    let mut changes = Vec::new(alloc);
+    changes.push((depth, change))?;
+    Ok(changes)
+}
+
+#[test]
+fn a_lone_path_is_changed_in_place(rt: HostRuntime) -> Result<(), Fail> {
+    let alloc = rt.alloc();
+    let mut world = branch_world(alloc).expect(&rt, "a small world");
+    let take = Step::Take {
+        view: 0,
+        number: 1,
+        tree: flat(alloc, 1),
+    };
+    assert_eq!(rt; world.apply(alloc, &take), Ok(true));
+    let longer = || TreeChange::Length { length: 51 };
+    let lengthen = Step::Mark {
+        view: 0,
+        number: 2,
+        path: vec![in alloc; 0]?,
+        changes: change(alloc, 1, longer()).expect(&rt, "one change"),
+    };
+    assert_eq!(rt;
+        world.apply(alloc, &lengthen),
+        Ok(false),
+        "the flat is held twice"
+    );
+    assert_eq!(rt;
+        world.apply(alloc, &Step::Leave { view: 0, number: 0 }),
+        Ok(true)
+    );
+    assert_eq!(rt; world.apply(alloc, &lengthen), Ok(true));
+    let refused = vec![in alloc;
+        (0, TreeChange::Length { length: 51 }),
+        (1, TreeChange::Length { length: 0 }),
+        (1, TreeChange::Length { length: 1 << 63 }),
+        (2, TreeChange::Length { length: 51 }),
+        (
+            0,
+            TreeChange::Add {
+                side: Side::Back,
+                numbers: vec![in alloc; 2]?
+            }
+        ),
+        (
+            0,
+            TreeChange::Add {
+                side: Side::Back,
+                numbers: vec![in alloc; 0]?
+            }
+        ),
+        (
+            0,
+            TreeChange::Drop {
+                side: Side::Back,
+                count: 1
+            }
+        ),
+        (
+            0,
+            TreeChange::Swap {
+                side: Side::Front,
+                number: 1
+            }
+        ),
+    ]?;
+    for (depth, one) in refused {
+        let step = Step::Mark {
+            view: 0,
+            number: 2,
+            path: vec![in alloc; 0]?,
+            changes: change(alloc, depth, one).expect(&rt, "one change"),
+        };
+        assert_eq!(rt; world.apply(alloc, &step), Ok(false), "at depth {depth}");
+    }
+    let mut changes = change(alloc, 1, TreeChange::Length { length: 21 }).expect(&rt, "one change");
+    changes.push((
+        0,
+        TreeChange::Add {
+            side: Side::Front,
+            numbers: vec![in alloc; 1]?,
+        },
+    ))?;
+    let grow = Step::Mark {
+        view: 0,
+        number: 2,
+        path: vec![in alloc; 0]?,
+        changes,
+    };
+    assert_eq!(rt; world.apply(alloc, &grow), Ok(true));
+    let root = world.views.first().and_then(|view| view.holds.first());
+    assert_eq!(rt; root.map(|tree| tree.length), Some(41));
+    assert_eq!(rt;
+        root.and_then(|tree| tree.children.first())
+            .map(|tree| tree.number),
+        Some(1)
+    );
+    assert_eq!(rt; world.words.as_slice(), [1, 1, 1].as_slice());
+    Ok(())
+}
+
 /// A random step. A take makes a tree of a view's first direct holds, whose kind fits how many they are.
 fn random_step(alloc: Global, world: &World, random: &mut Pcg32) -> Result<Step, Memory> {
     let view = random.next_word() % 4;
     let number = random.next_word() % 8;
     let other = random.next_word() % 4;
-    Ok(match random.next_word() % 14 {
+    Ok(match random.next_word() % 17 {
         0..=3 => {
             let tree = random_tree(
                 alloc,
@@ -165,7 +269,46 @@ fn random_step(alloc: Global, world: &World, random: &mut Pcg32) -> Result<Step,
         }
         11 => Step::Counted { view },
         12 => Step::Uncounted { view },
+        13..=15 => random_mark(alloc, view, number, random)?,
         _ => Step::Home { view },
+    })
+}
+
+/// A random change at a random depth of a path that is at most one edge long.
+fn random_mark(alloc: Global, view: u32, number: u32, random: &mut Pcg32) -> Result<Step, Memory> {
+    let mut path = Vec::new(alloc);
+    if random.next_word().is_multiple_of(2) {
+        path.push((random.next_word() % 3) as u8)?;
+    }
+    let depth = (random.next_word() % 2) as u8;
+    let side = if random.next_word().is_multiple_of(2) {
+        Side::Front
+    } else {
+        Side::Back
+    };
+    let other = random.next_word() % 8;
+    let changes = match random.next_word() % 4 {
+        0 => change(alloc, depth, TreeChange::Length { length: 7 })?,
+        1 => {
+            let mut numbers = Vec::new(alloc);
+            numbers.push(other)?;
+            change(alloc, depth, TreeChange::Add { side, numbers })?
+        }
+        2 => change(alloc, depth, TreeChange::Drop { side, count: 1 })?,
+        _ => change(
+            alloc,
+            depth,
+            TreeChange::Swap {
+                side,
+                number: other,
+            },
+        )?,
+    };
+    Ok(Step::Mark {
+        view,
+        number,
+        path,
+        changes,
     })
 }
 

@@ -168,7 +168,11 @@ impl View {
     }
 
     /// Takes out the first direct hold with each of the numbers in turn; none where one of them isn't held.
-    pub(crate) fn pull(&mut self, alloc: Global, numbers: &[u32]) -> Result<Option<Vec<Tree>>, Memory>
+    pub(crate) fn pull(
+        &mut self,
+        alloc: Global,
+        numbers: &[u32],
+    ) -> Result<Option<Vec<Tree>>, Memory>
         ensures { IfOk result (λ trees. MatchOption trees (CanPull numbers.now self.old → ⊥) (λ v. CanPull numbers.now self.old × (v.items ≡ pulled numbers.now self.old) × (self.new ≡ unpulled numbers.now self.old))) }
     {
         let mut out = Vec::new(alloc);

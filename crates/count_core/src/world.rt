@@ -140,7 +140,14 @@ impl World {
         self.has_view(view) && self.has_place(number) && self.views[view as usize].sees(number)
     }
 
-    fn mark(&mut self, alloc: Global, view: u32, number: u32, path: &[u8], changes: &[(u8, TreeChange)]) -> Result<bool, Memory>
+    fn mark(
+        &mut self,
+        alloc: Global,
+        view: u32,
+        number: u32,
+        path: &[u8],
+        changes: &[(u8, TreeChange)],
+    ) -> Result<bool, Memory>
         ensures done { IfOk result (λ done. Does (mark view number path.now (changes_of changes.now)) (state_of self.old) done (state_of self.new)) }
         ensures err { OnErr result (state_of self.new ≡ state_of self.old) }
     {

@@ -14,8 +14,7 @@ returns-then-not-is_lone-clause-done c =
     let n = c.args.number in
     let view = c.if-not-has_view.ensures.0 refl in
     let own : get_or views c.args.view [] ≡ c.index-own.result.now = default_same views c.args.view [] c.index-own.result.now view ∙ sym c.index-own.ensures in
-    let found : first n (get_or views c.args.view []) ≡ Some c.in-Some.root.now = ap (first n) own ∙ sym c.in-Some.ensures in
-    (
+    let found : first n (get_or views c.args.view []) ≡ Some c.in-Some.root.now = ap (first n) own ∙ sym c.in-Some.ensures in (
       λ can.
           let fits = subst (λ (o : Option Node). FitsRoot (λ k. get_or c.args.self.now.words.items k 0) o c.args.path.now (changes_of c.args.changes.now) (without n (get_or views c.args.view []))) found can.fits in
           let clash = c.if-not-is_lone.ensures.1 (subst (λ (ws : List ℕ). LonePath (λ k. get_or ws k 0) c.in-Some.root.now c.args.path.now) (sym c.deref.ensures.value) fits.0) in
@@ -39,8 +38,7 @@ returns-clause-done c =
     let got : FitEach cs (site c.in_ok-tree.tree c.in_ok-path.path.items c.in_ok-holds.holds) × (c.in-Some-2.edited ≡ holds_of (edits cs (site c.in_ok-tree.tree c.in_ok-path.path.items c.in_ok-holds.holds))) = rw c.in-Some-2.is at c.in_ok-edited.ensures in
     let lone : LonePath word root c.args.path.now = subst (λ (ws : List ℕ). LonePath (λ k. get_or ws k 0) root c.args.path.now) c.deref.ensures.value (c.if-not-is_lone.ensures.0 refl) in
     let made : c.in-Some-2.edited ≡ edited_holds (first n hs) c.args.path.now cs (without n hs) =
-        got.1 ∙ (ap (λ (s : Site). holds_of (edits cs s)) sites ∙ ap (λ (o : Option Node). edited_holds o c.args.path.now cs (without n hs)) (sym found)) in
-    (
+    got.1 ∙ (ap (λ (s : Site). holds_of (edits cs s)) sites ∙ ap (λ (o : Option Node). edited_holds o c.args.path.now cs (without n hs)) (sym found)) in (
       record {
         view = view;
         place = c.if-not-has_place.ensures.0 refl;
