@@ -138,6 +138,10 @@ edits_loose (c ∷ cs) s word lone fits =
     shuffled_then (loose s) (loose n) (loose (edits cs n)) (edit_loose c.1 c.0 s.tree s.path s.holds word lone fits.0)
     (edits_loose cs n word (edit_lone c.1 c.0 s.tree s.path s.holds word lone fits.0) fits.1)
 
+edits_lone : (cs : List (ℕ × Change)) (s : Site) (word : ℕ → ℕ) → LonePath word s.tree s.path → FitEach cs s → LonePath word (edits cs s).tree (edits cs s).path
+edits_lone [] s word lone fits = lone
+edits_lone (c ∷ cs) s word lone fits = edits_lone cs (edit c.1 c.0 s.tree s.path s.holds) word (edit_lone c.1 c.0 s.tree s.path s.holds word lone fits.0) fits.1
+
 pub edits_numbers : (cs : List (ℕ × Change)) (s : Site) (word : ℕ → ℕ) → LonePath word s.tree s.path → FitEach cs s → numbers_on (edits cs s).tree (edits cs s).path ≡ numbers_on s.tree s.path
 edits_numbers [] s word lone fits = refl
 edits_numbers (c ∷ cs) s word lone fits =
@@ -156,6 +160,7 @@ mark_moves w v n path changes (Some t) e l fits =
       is = get_or-set_same w.views v (edited_holds (first n (holds_at w v)) path changes (without n (holds_at w v))) [] l ∙ ap (λ (z : Option Node). edited_holds z path changes (without n (holds_at w v))) e;
       trees = λ x. (f.tops x, f.tops_from x);
       counts = f.count;
+      lone = edits_lone changes s (word_at w) fits.0 fits.1;
       numbers = edits_numbers changes s (word_at w) fits.0 fits.1;
     }
 

@@ -1,3 +1,4 @@
+-- The definitions of this crate.
 pub mod Holders
 pub mod Sound
 pub mod Views

@@ -8,8 +8,7 @@ use crate::world::World;
 use node_forest::Kind;
 use rand_core::utils::NextWord;
 use rand_pcg::Pcg32;
-use std::alloc::{AllocError, Global};
-use std::test::Fail;
+use std::alloc::Global;
 
 /// A flat of 20 bytes.
 fn flat(alloc: Global, number: u32) -> Tree {
@@ -70,74 +69,91 @@ fn branch(alloc: Global, view: u32, number: u32, edges: u64) -> Result<Step, Mem
     Ok(Step::Take { view, number, tree })
 }
 
-#[test]
-fn impossible_steps_are_refused(rt: HostRuntime) -> Result<(), Fail> {
-    let alloc = rt.alloc();
-    let mut world = branch_world(alloc).expect(&rt, "a small world");
-    let wrong_child = Tree {
+/// Whether each of the steps is refused.
+fn all_refused(alloc: Global, world: &mut World, steps: &[Step]) -> Result<bool, Memory> {
+    for step in steps {
+        if world.apply(alloc, step)? {
+            return Ok(false);
+        }
+    }
+    Ok(true)
+}
+
+/// Takes that aren't possible in the branch world: by their view, number, tree, word or children.
+fn refused_takes(alloc: Global) -> Result<Vec<Step>, Memory> {
+    let mut steps = Vec::new(alloc);
+    for (view, number, tree) in [(2, 1, 1), (0, 3, 3), (0, 1, 0), (0, 0, 0)] {
+        let tree = flat(alloc, tree);
+        steps.push(Step::Take { view, number, tree })?;
+    }
+    steps.push(branch(alloc, 0, 1, 2)?)?;
+    steps.push(branch(alloc, 1, 1, 1)?)?;
+    let mut children = Vec::new(alloc);
+    children.push(Tree {
+        number: 0,
+        kind: Kind::Flat,
+        length: 21,
+        children: Vec::new(alloc),
+    })?;
+    let tree = Tree {
         number: 1,
         kind: Kind::Part,
         length: 5,
-        children: vec![in alloc;
-            Tree {
-                length: 21,
-                ..flat(alloc, 0)
-            },
-        ]?,
+        children,
     };
-    let refused = vec![in alloc;
-        Step::Take {
-            view: 2,
-            number: 1,
-            tree: flat(alloc, 1)
-        },
-        Step::Take {
-            view: 0,
-            number: 3,
-            tree: flat(alloc, 3)
-        },
-        Step::Take {
-            view: 0,
-            number: 1,
-            tree: flat(alloc, 0)
-        },
-        Step::Take {
-            view: 0,
-            number: 0,
-            tree: flat(alloc, 0)
-        },
-        branch(alloc, 0, 1, 2).expect(&rt, "a small tree"),
-        branch(alloc, 1, 1, 1).expect(&rt, "a small tree"),
-        Step::Take {
-            view: 0,
-            number: 1,
-            tree: wrong_child
-        },
+    let (view, number) = (0, 1);
+    steps.push(Step::Take { view, number, tree })?;
+    Ok(steps)
+}
+
+/// Splits of the branch world's first view at places that it lacks or that aren't different.
+fn refused_splits(alloc: Global) -> Result<Vec<Step>, Memory> {
+    let mut beyond = Vec::new(alloc);
+    beyond.push(2)?;
+    let mut twice = Vec::new(alloc);
+    twice.push(1)?;
+    twice.push(1)?;
+    let mut steps = Vec::new(alloc);
+    for places in [beyond, twice] {
+        steps.push(Step::Split { view: 0, places })?;
+    }
+    Ok(steps)
+}
+
+#[test]
+fn impossible_steps_are_refused(rt: HostRuntime) {
+    let alloc = rt.alloc();
+    let mut world = branch_world(alloc).expect(&rt, "a small world");
+    let takes = refused_takes(alloc).expect(&rt, "small trees");
+    let splits = refused_splits(alloc).expect(&rt, "short lists");
+    let others = [
         Step::Share { view: 1, number: 0 },
         Step::Share { view: 0, number: 1 },
         Step::Leave { view: 1, number: 2 },
         Step::Leave { view: 0, number: 1 },
         Step::Look { view: 1, number: 0 },
-        Step::Split {
-            view: 0,
-            places: vec![in alloc; 2]?
-        },
-        Step::Split {
-            view: 0,
-            places: vec![in alloc; 1, 1]?
-        },
         Step::Merge { view: 0, other: 0 },
         Step::Merge { view: 0, other: 2 },
         Step::Uncounted { view: 0 },
         Step::Counted { view: 2 },
         Step::Home { view: 2 },
-    ]?;
-    for (i, step) in refused.iter().enumerate() {
-        assert_eq!(rt; world.apply(alloc, step), Ok(false), "step {i}");
-    }
+    ];
+    assert_eq!(rt; all_refused(alloc, &mut world, &takes), Ok(true));
+    assert_eq!(rt; all_refused(alloc, &mut world, &splits), Ok(true));
+    assert_eq!(rt; all_refused(alloc, &mut world, &others), Ok(true));
     assert_eq!(rt; world.words.as_slice(), [2, 0, 1].as_slice());
-    assert_eq!(rt; world.views.len(), 2);
-    Ok(())
+}
+
+/// Changes of the branch world's branch, along the path to its flat.
+fn mark(alloc: Global, changes: Vec<(u8, TreeChange)>) -> Result<Step, Memory> {
+    let mut path = Vec::new(alloc);
+    path.push(0)?;
+    Ok(Step::Mark {
+        view: 0,
+        number: 2,
+        path,
+        changes,
+    })
 }
 
 /// One change at a depth.
@@ -147,25 +163,55 @@ fn change(alloc: Global, depth: u8, change: TreeChange) -> Result<Vec<(u8, TreeC
     Ok(changes)
 }
 
+/// Direct holds with this number alone become edges behind the others.
+fn add(alloc: Global, number: u32) -> Result<TreeChange, Memory> {
+    let mut numbers = Vec::new(alloc);
+    numbers.push(number)?;
+    let side = Side::Front;
+    Ok(TreeChange::Add { side, numbers })
+}
+
+/// Changes that don't fit: a branch's length, a length of 0 and one of 2^63, a depth below the path, the root and a number
+/// that isn't held as edges, and the one edge of the path taken away or exchanged.
+fn refused_marks(alloc: Global) -> Result<Vec<Step>, Memory> {
+    let side = Side::Back;
+    let changes = [
+        (0, TreeChange::Length { length: 51 }),
+        (1, TreeChange::Length { length: 0 }),
+        (1, TreeChange::Length { length: 1 << 63 }),
+        (2, TreeChange::Length { length: 51 }),
+        (0, add(alloc, 2)?),
+        (0, add(alloc, 0)?),
+        (0, TreeChange::Drop { side, count: 1 }),
+        (0, TreeChange::Swap { side, number: 1 }),
+    ];
+    let mut steps = Vec::new(alloc);
+    for (depth, one) in changes {
+        steps.push(mark(alloc, change(alloc, depth, one)?)?)?;
+    }
+    Ok(steps)
+}
+
+/// A longer flat, and then another flat before it.
+fn grow(alloc: Global) -> Result<Step, Memory> {
+    let mut changes = change(alloc, 1, TreeChange::Length { length: 51 })?;
+    changes.push((0, add(alloc, 1)?))?;
+    mark(alloc, changes)
+}
+
 #[test]
-fn a_lone_path_is_changed_in_place(rt: HostRuntime) -> Result<(), Fail> {
+fn a_lone_path_is_changed_in_place(rt: HostRuntime) {
     let alloc = rt.alloc();
     let mut world = branch_world(alloc).expect(&rt, "a small world");
-    let take = Step::Take {
-        view: 0,
-        number: 1,
-        tree: flat(alloc, 1),
-    };
-    assert_eq!(rt; world.apply(alloc, &take), Ok(true));
-    let longer = || TreeChange::Length { length: 51 };
-    let lengthen = Step::Mark {
-        view: 0,
-        number: 2,
-        path: vec![in alloc; 0]?,
-        changes: change(alloc, 1, longer()).expect(&rt, "one change"),
-    };
+    let (view, number) = (0, 1);
+    let tree = flat(alloc, 1);
     assert_eq!(rt;
-        world.apply(alloc, &lengthen),
+        world.apply(alloc, &Step::Take { view, number, tree }),
+        Ok(true)
+    );
+    let grow = grow(alloc).expect(&rt, "two changes");
+    assert_eq!(rt;
+        world.apply(alloc, &grow),
         Ok(false),
         "the flat is held twice"
     );
@@ -173,74 +219,17 @@ fn a_lone_path_is_changed_in_place(rt: HostRuntime) -> Result<(), Fail> {
         world.apply(alloc, &Step::Leave { view: 0, number: 0 }),
         Ok(true)
     );
-    assert_eq!(rt; world.apply(alloc, &lengthen), Ok(true));
-    let refused = vec![in alloc;
-        (0, TreeChange::Length { length: 51 }),
-        (1, TreeChange::Length { length: 0 }),
-        (1, TreeChange::Length { length: 1 << 63 }),
-        (2, TreeChange::Length { length: 51 }),
-        (
-            0,
-            TreeChange::Add {
-                side: Side::Back,
-                numbers: vec![in alloc; 2]?
-            }
-        ),
-        (
-            0,
-            TreeChange::Add {
-                side: Side::Back,
-                numbers: vec![in alloc; 0]?
-            }
-        ),
-        (
-            0,
-            TreeChange::Drop {
-                side: Side::Back,
-                count: 1
-            }
-        ),
-        (
-            0,
-            TreeChange::Swap {
-                side: Side::Front,
-                number: 1
-            }
-        ),
-    ]?;
-    for (depth, one) in refused {
-        let step = Step::Mark {
-            view: 0,
-            number: 2,
-            path: vec![in alloc; 0]?,
-            changes: change(alloc, depth, one).expect(&rt, "one change"),
-        };
-        assert_eq!(rt; world.apply(alloc, &step), Ok(false), "at depth {depth}");
-    }
-    let mut changes = change(alloc, 1, TreeChange::Length { length: 21 }).expect(&rt, "one change");
-    changes.push((
-        0,
-        TreeChange::Add {
-            side: Side::Front,
-            numbers: vec![in alloc; 1]?,
-        },
-    ))?;
-    let grow = Step::Mark {
-        view: 0,
-        number: 2,
-        path: vec![in alloc; 0]?,
-        changes,
-    };
+    let refused = refused_marks(alloc).expect(&rt, "small steps");
+    assert_eq!(rt; all_refused(alloc, &mut world, &refused), Ok(true));
     assert_eq!(rt; world.apply(alloc, &grow), Ok(true));
     let root = world.views.first().and_then(|view| view.holds.first());
-    assert_eq!(rt; root.map(|tree| tree.length), Some(41));
+    assert_eq!(rt; root.map(|tree| tree.length), Some(71));
     assert_eq!(rt;
         root.and_then(|tree| tree.children.first())
             .map(|tree| tree.number),
         Some(1)
     );
     assert_eq!(rt; world.words.as_slice(), [1, 1, 1].as_slice());
-    Ok(())
 }
 
 /// A random step. A take makes a tree of a view's first direct holds, whose kind fits how many they are.

@@ -1,3 +1,4 @@
+-- The lemmas of this crate.
 pub mod Maps
 pub mod Members
 pub mod Counts

@@ -1,3 +1,4 @@
+-- The definitions of this crate.
 pub mod Forest
 pub mod Label
 pub mod Members

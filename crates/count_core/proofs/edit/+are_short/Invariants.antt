@@ -1,3 +1,4 @@
+-- What the loop of `are_short` keeps, or what grows less in its recursion.
 use Rattle.std.proofs.Common.{length}
 use Rattle.count_core.proofs.edit.+are_short.Given as goal
 

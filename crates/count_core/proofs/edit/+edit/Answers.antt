@@ -1,3 +1,4 @@
+-- The facts of `edit` that the check leaves to be shown.
 use Rattle.std.proofs.Common.{◌≡◌, ◌∙◌, ◌∷◌, [], ◌<◌, ◌≤◌, ◌+◌, ◌-◌, ◌^◌, suc, ap, arith, sym, refl, subst, get_or, set, length, List, ℕ}
 use Rattle.node_forest.specs.Forest.{children, forest}
 use Rattle.node_forest.specs.Label.{Node, number}

@@ -1,3 +1,4 @@
+-- What the loop of `is_lone` keeps, or what grows less in its recursion.
 use Rattle.std.proofs.Common.{length}
 use Rattle.count_core.proofs.edit.+is_lone.Given as goal
 

@@ -1,3 +1,4 @@
+-- The facts of `child_at` that the check leaves to be shown.
 use Rattle.std.proofs.Common.{◌≡◌, ◌∙◌, ap, arith, sym, get_or, length, List}
 use Rattle.node_forest.specs.Forest.{children}
 use Rattle.node_forest.specs.Label.{Node}

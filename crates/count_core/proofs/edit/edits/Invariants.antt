@@ -1,3 +1,4 @@
+-- What the loop of `edits` keeps, or what grows less in its recursion.
 use Rattle.std.proofs.Common.{◌≡◌, drop}
 use Rattle.count_core.specs.Marks.{FitEach, edits, site}
 use Rattle.count_core.specs.Terms.{changes_of}

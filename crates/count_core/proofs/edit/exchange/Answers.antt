@@ -1,3 +1,4 @@
+-- The facts of `exchange` that the check leaves to be shown.
 use Rattle.std.proofs.Common.{◌≡◌, ◌∙◌, ◌∷◌, [], ◌++◌, ◌<◌, ◌≤◌, ◌^◌, ap, arith, sym, refl, subst, get_or, length, List, ℕ}
 use Rattle.node_forest.specs.Forest.{children, forest}
 use Rattle.node_forest.specs.Label.{Node, number}

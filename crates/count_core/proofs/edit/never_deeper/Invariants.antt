@@ -1,3 +1,4 @@
+-- What the loop of `never_deeper` keeps, or what grows less in its recursion.
 use Rattle.std.proofs.Common.{length, drop}
 use Rattle.count_core.specs.Marks.{NeverDeeper}
 use Rattle.count_core.specs.Terms.{changes_of}

@@ -1,3 +1,4 @@
+-- What the loop of `places_of` keeps, or what grows less in its recursion.
 use Rattle.std.proofs.Common.{◌≡◌, take}
 use Rattle.count_core.proofs.edit.places_of.Given as goal
 

@@ -1,3 +1,4 @@
+-- What the loop of `total` keeps, or what grows less in its recursion.
 use Rattle.std.proofs.Common.{◌≡◌, ◌+◌, ◌^◌, ◌<◌, drop}
 use Rattle.count_core.specs.Marks.{total}
 use Rattle.count_core.proofs.edit.total.Given as goal

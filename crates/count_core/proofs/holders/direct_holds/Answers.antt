@@ -1,3 +1,4 @@
+-- The facts of `direct_holds` that the check leaves to be shown.
 use Rattle.std.proofs.Common.{◌≡◌, ◌∙◌, ap, arith}
 use Rattle.node_forest.specs.Counts.{times}
 use Rattle.count_core.specs.Steps.{roots}

@@ -1,3 +1,4 @@
+-- What the loop of `direct_holds` keeps, or what grows less in its recursion.
 use Rattle.std.proofs.Common.{◌≡◌, ◌+◌, ◌-◌, ◌^◌, ◌≤◌, min, drop}
 use Rattle.node_forest.specs.Counts.{times}
 use Rattle.count_core.specs.Steps.{roots}

@@ -1,3 +1,4 @@
+-- The facts of `edges_of_first` that the check leaves to be shown.
 use Rattle.std.proofs.Common.{◌∙◌, ap, sym}
 use Rattle.node_forest.specs.Counts.{times, edges_in}
 use Rattle.count_core.proofs.TreeNodes.{children_of}

@@ -1,3 +1,4 @@
+-- The facts of `first` that the check leaves to be shown.
 use Rattle.std.proofs.Common.{◌∙◌, arith, sym}
 use Rattle.count_core.proofs.Search.{first_view_here, first_view_later}
 use Rattle.count_core.proofs.holders.first.Goals as goal

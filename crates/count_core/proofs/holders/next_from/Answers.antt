@@ -1,3 +1,4 @@
+-- The facts of `next_from` that the check leaves to be shown.
 use Rattle.std.proofs.Common.{arith, sym, subst, take, ◌+◌}
 use Rattle.node_forest.specs.Forest.{nodes_of}
 use Rattle.count_core.specs.Search.{IsNext}

@@ -1,3 +1,4 @@
+-- The facts of `every_run_keeps_counts` that the check leaves to be shown.
 use Rattle.count_core.specs.Steps.{start}
 use Rattle.count_core.proofs.Runs.{start_sound, run_sound, started_places}
 use Rattle.count_core.proofs.laws.every_run_keeps_counts.Goals as goal

@@ -1,3 +1,4 @@
+-- The facts of `takes_and_returns_alternate` that the check leaves to be shown.
 use Rattle.count_core.specs.Steps.{start}
 use Rattle.count_core.proofs.Runs.{start_sound, started_alternates, run_frees}
 use Rattle.count_core.proofs.laws.takes_and_returns_alternate.Goals as goal

@@ -1,3 +1,4 @@
+-- The facts of `marks_of` that the check leaves to be shown.
 use Rattle.std.proofs.Common.{◌≡◌, ◌∙◌, ◌++◌, ◌∷◌, ap, arith, sym, subst, length, get_or, List, take, drop, ℕ, true, false, add-one, suc, set, ◌<◌}
 use Rattle.count_core.specs.Views.{AreDifferent, AreBelow, AreMarks, is_among}
 use Rattle.count_core.proofs.Lists.{item_between, default_same, take_item}

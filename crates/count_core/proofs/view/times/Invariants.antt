@@ -1,3 +1,4 @@
+-- What the loop of `times` keeps, or what grows less in its recursion.
 use Rattle.std.proofs.Common.{◌≡◌, ◌+◌, ◌≤◌, drop}
 use Rattle.node_forest.specs.Counts.{times}
 use Rattle.count_core.proofs.view.times.Given as goal

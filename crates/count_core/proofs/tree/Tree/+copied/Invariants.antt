@@ -1,3 +1,4 @@
+-- What the loop of `copied` keeps, or what grows less in its recursion.
 use Rattle.std.proofs.Common.{◌≡◌, take}
 use Rattle.count_core.proofs.tree.Tree.+copied.Given as goal
 

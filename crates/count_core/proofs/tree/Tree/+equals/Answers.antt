@@ -1,3 +1,4 @@
+-- The facts of `equals` that the check leaves to be shown.
 use Rattle.std.proofs.Common.{◌≡◌, ◌∙◌, ap, arith, sym, length, get_or, subst, List}
 use Rattle.node_forest.specs.Label.{Node}
 use Rattle.count_core.proofs.Lists.{item_same}

@@ -1,3 +1,4 @@
+-- What the loop of `equals` keeps, or what grows less in its recursion.
 use Rattle.std.proofs.Common.{◌≡◌, take}
 use Rattle.count_core.proofs.tree.Tree.+equals.Given as goal
 

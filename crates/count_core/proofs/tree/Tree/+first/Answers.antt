@@ -1,3 +1,4 @@
+-- The facts of `first` that the check leaves to be shown.
 use Rattle.std.proofs.Common.{◌∙◌, ap, arith, sym, refl}
 use Rattle.node_forest.specs.Forest.{forest, nodes_of}
 use Rattle.node_forest.specs.Label.{Node, number}

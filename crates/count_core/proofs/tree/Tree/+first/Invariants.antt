@@ -1,3 +1,4 @@
+-- What the loop of `first` keeps, or what grows less in its recursion.
 use Rattle.std.proofs.Common.{◌≡◌, drop}
 use Rattle.node_forest.specs.Forest.{nodes_of}
 use Rattle.node_forest.specs.Counts.{first}

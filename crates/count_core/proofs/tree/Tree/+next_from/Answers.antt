@@ -1,3 +1,4 @@
+-- The facts of `next_from` that the check leaves to be shown.
 use Rattle.std.proofs.Common.{◌≡◌, ◌≤◌, ◌<◌, ◌∙◌, ◌∷◌, [], arith, ap, sym, subst, take, ◌+◌, List}
 use Rattle.std.specs.Prelude.{Some, None, Option}
 use Rattle.node_forest.specs.Forest.{nodes, nodes_of, forest}

@@ -1,3 +1,4 @@
+-- The facts of `close` that the check leaves to be shown.
 use Rattle.std.proofs.Common.{◌∙◌, ap, arith, sym, [], ◌∷◌}
 use Rattle.node_forest.specs.Label.{number}
 use Rattle.count_core.specs.Views.{without}

@@ -1,3 +1,4 @@
+-- What the loop of `close` keeps, or what grows less in its recursion.
 use Rattle.std.proofs.Common.{◌≡◌, ◌++◌, ◌∷◌, [], take}
 use Rattle.count_core.specs.Views.{without_all}
 use Rattle.count_core.proofs.view.View.close.Given as goal

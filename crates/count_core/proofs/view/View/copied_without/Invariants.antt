@@ -1,3 +1,4 @@
+-- What the loop of `copied_without` keeps, or what grows less in its recursion.
 use Rattle.std.proofs.Common.{◌≡◌, take}
 use Rattle.count_core.proofs.view.View.copied_without.Given as goal
 

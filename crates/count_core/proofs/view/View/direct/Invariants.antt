@@ -1,3 +1,4 @@
+-- What the loop of `direct` keeps, or what grows less in its recursion.
 use Rattle.std.proofs.Common.{◌≡◌, drop}
 use Rattle.node_forest.specs.Counts.{first}
 use Rattle.count_core.proofs.view.View.direct.Given as goal

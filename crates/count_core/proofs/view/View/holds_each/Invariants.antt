@@ -1,3 +1,4 @@
+-- What the loop of `holds_each` keeps, or what grows less in its recursion.
 use Rattle.std.proofs.Common.{take}
 use Rattle.node_forest.specs.Label.{Node}
 use Rattle.node_forest.specs.Members.{In}

@@ -1,3 +1,4 @@
+-- What the loop of `next_from` keeps, or what grows less in its recursion.
 use Rattle.std.proofs.Common.{take}
 use Rattle.node_forest.specs.Forest.{nodes_of}
 use Rattle.count_core.specs.Search.{IsNext}

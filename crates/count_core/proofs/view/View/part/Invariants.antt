@@ -1,3 +1,4 @@
+-- What the loop of `part` keeps, or what grows less in its recursion.
 use Rattle.std.proofs.Common.{◌≡◌, ◌++◌, drop}
 use Rattle.count_core.specs.Views.{chosen}
 use Rattle.count_core.proofs.view.View.part.Given as goal

@@ -1,3 +1,4 @@
+-- The facts of `place_of` that the check leaves to be shown.
 use Rattle.std.proofs.Common.{◌≡◌, ◌∙◌, ◌<◌, ap, arith, sym, subst, length, List}
 use Rattle.std.specs.Prelude.{None, slice_get}
 use Rattle.std.specs.List.{remove}

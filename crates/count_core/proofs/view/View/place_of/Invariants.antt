@@ -1,3 +1,4 @@
+-- What the loop of `place_of` keeps, or what grows less in its recursion.
 use Rattle.std.proofs.Common.{◌≡◌, ◌++◌, take, drop}
 use Rattle.node_forest.specs.Counts.{first}
 use Rattle.count_core.specs.Views.{without}

@@ -1,3 +1,4 @@
+-- What the loop of `pull` keeps, or what grows less in its recursion.
 use Rattle.std.proofs.Common.{◌≡◌, ◌++◌, drop}
 use Rattle.count_core.specs.Marks.{CanPull, pulled, unpulled}
 use Rattle.count_core.proofs.view.View.pull.Given as goal

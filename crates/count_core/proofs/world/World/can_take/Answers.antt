@@ -1,3 +1,4 @@
+-- The facts of `can_take` that the check leaves to be shown.
 use Rattle.std.proofs.Common.{[], ◌≡◌, ◌∙◌, ap, sym, refl, subst, get_or, arith, List}
 use Rattle.node_forest.specs.Forest.{children}
 use Rattle.node_forest.specs.Label.{Node, number}

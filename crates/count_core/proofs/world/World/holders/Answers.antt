@@ -1,3 +1,4 @@
+-- The facts of `holders` that the check leaves to be shown.
 use Rattle.std.proofs.Common.{◌≡◌, ◌∙◌, ◌+◌, arith, ap, sym, subst}
 use Rattle.std.specs.Prelude.{Some, None}
 use Rattle.node_forest.specs.Forest.{nodes_of}

@@ -1,3 +1,4 @@
+-- What the loop of `holders` keeps, or what grows less in its recursion.
 use Rattle.std.proofs.Common.{◌≡◌, ◌+◌, ◌-◌, ◌^◌, ◌≤◌, min}
 use Rattle.node_forest.specs.Counts.{times}
 use Rattle.count_core.specs.Sound.{sum_below, edge}

@@ -1,3 +1,4 @@
+-- The facts of `mark` that the check leaves to be shown.
 use Rattle.std.proofs.Common.{◌≡◌, ◌∙◌, ap, sym, refl, subst, get_or, set, List, ℕ, []}
 use Rattle.std.specs.Prelude.{Option, Some}
 use Rattle.node_forest.specs.Label.{Node}

@@ -1,3 +1,4 @@
+-- The facts of `merge` that the check leaves to be shown.
 use Rattle.std.proofs.Common.{◌≡◌, ◌∙◌, sym, subst, get_or, set, List}
 use Rattle.node_forest.specs.Label.{Node}
 use Rattle.count_core.proofs.Lists.{set_back}

@@ -1,3 +1,4 @@
+-- The facts of `split` that the check leaves to be shown.
 use Rattle.std.proofs.Common.{◌≡◌, ◌∙◌, ◌++◌, ◌∷◌, [], ap, arith, sym, refl, subst, get_or, set, length, List, ℕ}
 use Rattle.std.specs.Prelude.{true, false}
 use Rattle.node_forest.specs.Label.{Node}
