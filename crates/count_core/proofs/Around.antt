@@ -1,11 +1,10 @@
 -- The direct holds of one view among those of all.
-use Rattle.std.proofs.Common.{◌≡◌, ℕ, zero, suc, ◌+◌, ◌<◌, ◌≤◌, ◌≢◌, ◌⊎◌, inl, inr, ⊎_elim, Bool, true, false, List, [], ◌∷◌, ◌++◌, length, get_or, set, refl, sym, ◌∙◌, ap, subst, arith, append_assoc}
+use Rattle.std.proofs.Common.{◌≡◌, ℕ, zero, suc, ◌+◌, ◌<◌, inl, inr, ⊎_elim, Bool, true, false, List, [], ◌∷◌, ◌++◌, length, get_or, set, refl, sym, ◌∙◌, ap, subst, arith, append_assoc}
 use Rattle.std.specs.Prelude.{not}
 use mathlib.Core.Logic.{dite}
 use native.Mathlib.Decide.{ℕ_discrete}
 use Rattle.node_forest.specs.Label.{Node, number}
 use Rattle.node_forest.specs.Members.{In, Occurs}
-use Rattle.node_forest.specs.Counts.{times}
 use Rattle.node_forest.proofs.Members.{occurs_split, occurs_left, occurs_right}
 use Rattle.node_forest.proofs.Counts.{times_append}
 use Rattle.count_core.specs.Holders.{skip_if}

@@ -2,8 +2,8 @@
 use Rattle.std.proofs.Common.{◌≡◌, ℕ, ◌+◌, ◌<◌, ◌≤◌, ◌≢◌, ◌⊎◌, inl, inr, ⊎_elim, List, [], ◌∷◌, refl, sym, ◌∙◌, ap, subst, arith}
 use Rattle.std.specs.Prelude.{Some}
 use mathlib.Core.Logic.{dite}
-use native.Mathlib.Decide.{ℕ_discrete, dec_le}
-use Rattle.node_forest.specs.Forest.{children, nodes, below, nodes_of}
+use native.Mathlib.Decide.{dec_le}
+use Rattle.node_forest.specs.Forest.{children, nodes_of}
 use Rattle.node_forest.specs.Label.{Node, number}
 use Rattle.node_forest.specs.Members.{In, Occurs}
 use Rattle.node_forest.specs.Counts.{is, times, first, edges_in}

@@ -1,18 +1,18 @@
 -- A change on a lone path keeps the words the counts of their holders.
-use Rattle.std.proofs.Common.{◌≡◌, ◌≢◌, ℕ, zero, suc, ◌+◌, ◌-◌, ◌^◌, ◌<◌, ◌≤◌, ◌⊎◌, inl, inr, ⊎_elim, List, [], ◌∷◌, ◌++◌, length, get_or, set, take, drop, refl, sym, ◌∙◌, ap, subst, arith, append_assoc, append-nil, take-append-drop, length-append, length-set, get_or-set_same}
+use Rattle.std.proofs.Common.{◌≡◌, ℕ, zero, suc, ◌+◌, ◌-◌, ◌<◌, ◌≤◌, inl, inr, ⊎_elim, List, [], ◌∷◌, ◌++◌, length, get_or, set, take, drop, refl, sym, ◌∙◌, ap, subst, arith, append_assoc, take-append-drop, length-append, length-set, get_or-set_same}
 use Rattle.std.specs.Prelude.{Option, Some, None, IsSome, option_to_list}
 use mathlib.Core.Logic.{dite}
 use native.Mathlib.Decide.{ℕ_discrete}
-use Rattle.node_forest.specs.Forest.{children, nodes_of, forest}
+use Rattle.node_forest.specs.Forest.{children}
 use Rattle.node_forest.specs.Label.{Node, number}
 use Rattle.node_forest.specs.Members.{In, Occurs}
 use Rattle.node_forest.specs.Counts.{is, times, first}
 use Rattle.node_forest.proofs.Maps.{trees-forest}
-use Rattle.node_forest.proofs.Members.{in_left, in_right, in_split, root_occurs, occurs_split, occurs_left, occurs_right, child_occurs, alone_in}
+use Rattle.node_forest.proofs.Members.{in_left, in_right, in_split, root_occurs, occurs_split, occurs_left, occurs_right, child_occurs}
 use Rattle.node_forest.proofs.Counts.{times_append, is_one, is_none, first_hit, first_miss}
 use Rattle.count_core.specs.Sound.{Sound, Parts}
 use Rattle.count_core.specs.Views.{without}
-use Rattle.count_core.specs.Marks.{Side, front, back, Change, resize, exchange, Site, pulled, unpulled, CanPull, outgoing, remaining, joined, path_after, KeepsChild, edges_after, edited, edit, raised, branch_of, child_of, Fits, FitsAt, FitEach, LonePath, edits}
+use Rattle.count_core.specs.Marks.{Side, front, back, Change, resize, exchange, Site, pulled, unpulled, CanPull, outgoing, remaining, joined, edges_after, edit, raised, child_of, FitsAt, FitEach, LonePath, edits}
 use Rattle.count_core.proofs.Counting.{stays, unheld}
 use Rattle.count_core.proofs.Marks.{less, less_is, opens, closes}
 use Rattle.count_core.proofs.Lists.{default_same}

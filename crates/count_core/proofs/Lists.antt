@@ -1,5 +1,5 @@
 -- Lists cut at an index.
-use Rattle.std.proofs.Common.{◌≡◌, ℕ, zero, suc, ◌+◌, ◌<◌, ◌≤◌, List, [], ◌∷◌, ◌++◌, length, take, drop, get_or, set, refl, sym, ◌∙◌, ap, subst, arith, add-one}
+use Rattle.std.proofs.Common.{◌≡◌, ℕ, zero, suc, ◌+◌, ◌<◌, ◌≤◌, List, [], ◌∷◌, ◌++◌, length, take, drop, get_or, set, refl, sym, ◌∙◌, ap, arith, add-one}
 use Rattle.std.proofs.lemmas.List.{set-set, set-get_or}
 use Rattle.node_forest.specs.Forest.{trees, forest}
 use Rattle.node_forest.specs.Label.{Node}

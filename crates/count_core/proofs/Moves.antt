@@ -1,19 +1,17 @@
 -- Each kind of step keeps the words the counts of their holders.
-use Rattle.std.proofs.Common.{◌≡◌, ℕ, zero, suc, ◌+◌, ◌-◌, ◌^◌, ◌<◌, ◌≤◌, ◌≢◌, ◌⊎◌, inl, inr, ⊎_elim, Bool, true, false, eq-eqb, ne_eqb, List, [], ◌∷◌, ◌++◌, length, get_or, set, refl, sym, ◌∙◌, ap, subst, arith, append_assoc, append-nil, length-set, get_or-set_same, get_or-set_other}
+use Rattle.std.proofs.Common.{◌≡◌, ℕ, ◌+◌, ◌-◌, ◌^◌, ◌<◌, ◌≤◌, ◌≢◌, inl, inr, ⊎_elim, eq-eqb, ne_eqb, List, [], ◌∷◌, ◌++◌, length, get_or, set, refl, sym, ◌∙◌, ap, subst, arith, append_assoc, append-nil, length-set, get_or-set_same, get_or-set_other}
 use Rattle.std.specs.Prelude.{Option, Some, None, IsSome, option_to_list, if◌then◌else◌}
-use Rattle.std.proofs.lemmas.List.{set-get_or}
 use mathlib.Core.Logic.{dite}
 use native.Mathlib.Decide.{ℕ_discrete}
 use Rattle.node_forest.specs.Forest.{children, nodes_of}
 use Rattle.node_forest.specs.Label.{Node, number}
 use Rattle.node_forest.specs.Members.{In, Occurs}
 use Rattle.node_forest.specs.Counts.{is, times, first}
-use Rattle.node_forest.proofs.Members.{root_occurs, occurs_split, occurs_left, occurs_right}
+use Rattle.node_forest.proofs.Members.{root_occurs}
 use Rattle.node_forest.proofs.Counts.{is_one, is_none, times_pos, times_some, first_cases, first_found}
-use Rattle.count_core.specs.Holders.{Fitting, holders}
-use Rattle.count_core.specs.Sound.{Sound, Parts, holders_below}
+use Rattle.count_core.specs.Sound.{Sound, Parts}
 use Rattle.count_core.specs.Marks.{Change, FitsRoot, edited_holds, holds_of, edits, site}
-use Rattle.count_core.specs.Views.{without, without_all, IsHeld, AreHeld, edges_of_one, passed_on, moving, staying}
+use Rattle.count_core.specs.Views.{without, without_all, AreHeld, edges_of_one, passed_on, moving, staying}
 use Rattle.count_core.specs.Steps.{State, Step, take, share, leave, look, mark, split, merge, counted, uncounted, home, word_at, holds_at, roots, CanTake, CanShare, CanLeave, CanMark, CanSplit, CanMerge, CanStep, after, changed, with_views}
 use Rattle.count_core.specs.Worlds.{IsSound}
 use Rattle.count_core.proofs.DifferentNumbers.{holders_below-holders}

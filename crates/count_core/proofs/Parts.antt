@@ -1,8 +1,6 @@
 -- Roots in parts.
-use Rattle.std.proofs.Common.{◌≡◌, ℕ, ◌+◌, ◌⊎◌, inl, inr, ⊎_elim, List, [], ◌∷◌, ◌++◌, sym, subst, arith}
+use Rattle.std.proofs.Common.{◌≡◌, inl, inr, ⊎_elim, List, ◌++◌, sym, subst, arith}
 use Rattle.node_forest.specs.Label.{Node}
-use Rattle.node_forest.specs.Members.{Occurs}
-use Rattle.node_forest.specs.Counts.{times}
 use Rattle.node_forest.proofs.Members.{occurs_split, occurs_left, occurs_right}
 use Rattle.node_forest.proofs.Counts.{times_append}
 use Rattle.count_core.specs.Sound.{Parts}

@@ -1,6 +1,6 @@
 -- Direct holds by their places: the first with a number, taking it out, and holds divided by marks.
-use Rattle.std.proofs.Common.{◌≡◌, ◌≢◌, ℕ, zero, suc, ◌+◌, ◌<◌, ◌≤◌, ◌⊎◌, inl, inr, ⊎_elim, Bool, true, false, eqb, eq-eqb, ne_eqb, List, [], ◌∷◌, ◌++◌, length, take, drop, get_or, set, refl, sym, ◌∙◌, ap, subst, arith, add-one, append_assoc, get_or-set_same, get_or-set_other, length-set, append-nil, take-append-drop}
-use Rattle.std.specs.Prelude.{Option, Some, None, slice_get, IsFalse, ◌||◌, if◌then◌else◌, not}
+use Rattle.std.proofs.Common.{◌≡◌, ◌≢◌, ℕ, zero, suc, ◌+◌, ◌<◌, ◌≤◌, inl, inr, ⊎_elim, Bool, true, false, eqb, eq-eqb, ne_eqb, List, [], ◌∷◌, ◌++◌, length, take, drop, get_or, set, refl, sym, ◌∙◌, ap, subst, arith, add-one, append_assoc, get_or-set_same, get_or-set_other, length-set, append-nil, take-append-drop}
+use Rattle.std.specs.Prelude.{Option, None, slice_get, ◌||◌, if◌then◌else◌, not}
 use Rattle.std.specs.List.{remove}
 use Rattle.std.proofs.lemmas.Option.{slice_get_read}
 use mathlib.Core.Logic.{dite}
@@ -8,10 +8,10 @@ use native.Mathlib.Decide.{ℕ_discrete}
 use Rattle.node_forest.specs.Label.{Node, number}
 use Rattle.node_forest.specs.Members.{In}
 use Rattle.node_forest.specs.Counts.{one_if, is, times, first}
-use Rattle.node_forest.proofs.Members.{in_split, in_left, in_right}
+use Rattle.node_forest.proofs.Members.{in_split}
 use Rattle.node_forest.proofs.Counts.{is_one, is_none, times_append, first_hit, first_miss}
 use Rattle.count_core.specs.Holders.{skip_if}
-use Rattle.count_core.specs.Views.{without, without_all, IsHeld, AreHeld, edges_of_one, is_among, AreDifferent, AreBelow, moving, staying, put_if, chosen, AreMarks}
+use Rattle.count_core.specs.Views.{without, without_all, AreHeld, edges_of_one, is_among, AreDifferent, AreBelow, moving, staying, put_if, chosen, AreMarks}
 use Rattle.count_core.proofs.Lists.{drop_item, take_item, take_whole, drop_whole}
 
 -- ---- taking one out

@@ -1,20 +1,19 @@
 -- A search goes on through a list, and over the views.
-use Rattle.std.proofs.Common.{◌≡◌, ◌≢◌, ℕ, zero, suc, ◌+◌, ◌-◌, ⊎_elim, append_assoc, ◌<◌, ◌≤◌, min, List, [], ◌∷◌, ◌++◌, length, take, drop, get_or, refl, sym, ◌∙◌, ap, subst, arith, add-one, append-nil}
+use Rattle.std.proofs.Common.{◌≡◌, ℕ, zero, suc, ◌+◌, ◌-◌, ⊎_elim, append_assoc, ◌<◌, ◌≤◌, List, [], ◌∷◌, ◌++◌, length, take, drop, get_or, refl, sym, ◌∙◌, ap, subst, arith, add-one, append-nil}
 use Rattle.std.specs.Prelude.{Option, Some, None}
 use mathlib.Core.Logic.{dite}
-use native.Mathlib.Decide.{ℕ_discrete, dec_le}
-use Rattle.node_forest.specs.Forest.{children, nodes, nodes_of, below, forest}
+use native.Mathlib.Decide.{dec_le}
+use Rattle.node_forest.specs.Forest.{nodes_of, below}
 use Rattle.node_forest.specs.Label.{Node, number}
-use Rattle.node_forest.specs.Members.{In, Occurs}
 use Rattle.node_forest.specs.Counts.{times, first, edges_in}
-use Rattle.node_forest.proofs.Members.{nodes_append, nodes-forest}
-use Rattle.node_forest.proofs.Counts.{times_append, times_pos, first_cases, first_hit, first_miss, first-append_none, first-append_some}
+use Rattle.node_forest.proofs.Members.{nodes_append}
+use Rattle.node_forest.proofs.Counts.{times_append, first_cases, first_miss, first-append_none, first-append_some}
 use Rattle.count_core.specs.Holders.{holders, Fitting}
 use Rattle.count_core.specs.Search.{IsNext, lesser}
-use Rattle.count_core.specs.Sound.{sum_below, edge, holders_below}
+use Rattle.count_core.specs.Sound.{sum_below, edge}
 use Rattle.count_core.specs.Steps.{roots}
 use Rattle.count_core.proofs.DifferentNumbers.{holders_below-holders}
-use Rattle.count_core.proofs.Lists.{drop_item, take_item, take_whole}
+use Rattle.count_core.proofs.Lists.{drop_item, take_item}
 
 -- ---- the next number over two lists
 pub next-append : (from : ℕ) (xs ys : List Node) (a b : Option ℕ) → IsNext from xs a → IsNext from ys b → IsNext from (xs ++ ys) (lesser a b)

@@ -1,7 +1,7 @@
 -- Trees are equal where their fields are, and a tree's nodes are those of its children behind it.
-use Rattle.std.proofs.Common.{◌≡◌, ◌≢◌, ℕ, ◌+◌, ◌<◌, List, [], ◌∷◌, ◌++◌, length, drop, get_or, refl, sym, ◌∙◌, ap, arith}
+use Rattle.std.proofs.Common.{◌≡◌, ◌≢◌, ℕ, ◌+◌, ◌<◌, List, [], length, drop, get_or, sym, ◌∙◌, ap}
 use Rattle.std.specs.Prelude.{Option, Some, None}
-use Rattle.node_forest.specs.Forest.{Forest, forest, nodes, nodes_of, below, children}
+use Rattle.node_forest.specs.Forest.{forest, nodes, nodes_of, below, children}
 use Rattle.node_forest.specs.Label.{Node, number}
 use Rattle.node_forest.specs.Counts.{first}
 use Rattle.node_forest.proofs.Maps.{trees-forest}

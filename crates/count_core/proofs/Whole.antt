@@ -1,15 +1,15 @@
 -- Changes on a path move whole trees between its edges and the direct holds, and keep the numbers on the path.
-use Rattle.std.proofs.Common.{◌≡◌, ◌≢◌, ℕ, zero, suc, ◌+◌, ◌-◌, ◌<◌, ◌≤◌, List, [], ◌∷◌, ◌++◌, length, get_or, set, take, drop, refl, sym, ◌∙◌, ap, subst, arith, append_assoc, append-nil, take-append-drop, get_or-set_same, get_or-set_other}
+use Rattle.std.proofs.Common.{◌≡◌, ◌≢◌, ℕ, zero, suc, ◌+◌, ◌-◌, ◌<◌, ◌≤◌, List, [], ◌∷◌, ◌++◌, length, get_or, set, take, drop, refl, sym, ◌∙◌, ap, arith, append_assoc, take-append-drop, get_or-set_same, get_or-set_other}
 use Rattle.std.specs.Prelude.{Option, Some, None}
-use Rattle.node_forest.specs.Forest.{children, forest}
+use Rattle.node_forest.specs.Forest.{children}
 use Rattle.node_forest.specs.Label.{Node, number}
 use Rattle.node_forest.specs.Counts.{first}
 use Rattle.node_forest.proofs.Maps.{trees-forest}
-use Rattle.count_core.specs.Marks.{Side, front, back, Change, resize, exchange, Site, site, pulled, unpulled, CanPull, edges_after, edit, raised, child_of, FitsAt, FitEach, LonePath, FitsRoot, edits, edited_holds, all_but, beside, loose, numbers_on}
+use Rattle.count_core.specs.Marks.{front, back, Change, resize, exchange, Site, site, pulled, unpulled, CanPull, edges_after, edit, raised, child_of, FitsAt, FitEach, LonePath, FitsRoot, edits, edited_holds, all_but, beside, loose, numbers_on}
 use Rattle.count_core.specs.Steps.{State, mark, after, holds_at, word_at, CanStep}
 use Rattle.count_core.specs.MarkLaws.{MovesWholeTrees}
 use Rattle.count_core.specs.Views.{without}
-use Rattle.count_core.proofs.Edits.{Shuffled, shuffled_refl, shuffled_then, shuffled_along, shuffled_append, shuffled_swap, shuffled_between, shuffled_middle, shuffled_pulled, shuffled_exchange, kept_front, kept_back, length_taken, edit_lone, edit_number}
+use Rattle.count_core.proofs.Edits.{Shuffled, shuffled_refl, shuffled_then, shuffled_along, shuffled_append, shuffled_swap, shuffled_between, shuffled_middle, shuffled_pulled, shuffled_exchange, kept_front, kept_back, length_taken, edit_lone}
 
 -- ---- lists without one place
 but_right : (a b : List Node) (i : ℕ) → all_but (i + length a) (a ++ b) ≡ a ++ all_but i b

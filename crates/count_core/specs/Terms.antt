@@ -1,5 +1,5 @@
 -- What contracts see of a world and of a step: those of the step relation.
-use Rattle.std.specs.Prelude.{ℕ, List, [], ◌∷◌, map}
+use Rattle.std.specs.Prelude.{ℕ, List, [], ◌∷◌}
 use Rattle.count_core.specs.Marks.{Change, resize, exchange, front, back}
 use Rattle.count_core.specs.Marks as the_marks
 use Rattle.count_core.specs.Steps.{State, Step, take, share, leave, look, mark, split, merge, counted, uncounted, home}

@@ -1,5 +1,5 @@
 -- What contracts see of a tree: a node whose label has no bytes and nothing of its kind.
-use Rattle.std.specs.Prelude.{ℕ, ◌+◌, ◌≤◌, List, [], ◌∷◌}
+use Rattle.std.specs.Prelude.{◌+◌, ◌≤◌, List, [], ◌∷◌}
 use Rattle.std.proofs.Common.{arith}
 use denote.Param.Weighed.{most}
 use Rattle.node_forest.specs.Forest.{forest, node_count}

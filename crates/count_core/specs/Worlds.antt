@@ -1,5 +1,5 @@
 -- When the words of a world are the counts of their numbers' holders.
-use Rattle.std.specs.Prelude.{◌≡◌, ℕ, ◌^◌, ◌≤◌, length}
+use Rattle.std.specs.Prelude.{ℕ, ◌^◌, ◌≤◌, length}
 use Rattle.count_core.specs.Holders.{Agreed, Counted, Fitting}
 use Rattle.count_core.specs.Steps.{State, word_at, roots}
 

@@ -1,8 +1,8 @@
 -- The facts of `edit` that the check leaves to be shown.
-use Rattle.std.proofs.Common.{◌≡◌, ◌∙◌, ◌∷◌, [], ◌<◌, ◌≤◌, ◌+◌, ◌-◌, ◌^◌, suc, ap, arith, sym, refl, subst, get_or, set, length, List, ℕ}
+use Rattle.std.proofs.Common.{◌≡◌, ◌∙◌, [], ◌<◌, ◌-◌, ◌^◌, suc, ap, arith, sym, subst, get_or, set, length, List, ℕ}
 use Rattle.node_forest.specs.Forest.{children, forest}
-use Rattle.node_forest.specs.Label.{Node, number}
-use Rattle.count_core.specs.Marks.{Site, FitsAt, edit, site, raised, branch_of, child_of, total}
+use Rattle.node_forest.specs.Label.{Node}
+use Rattle.count_core.specs.Marks.{Site, FitsAt, edit, site, raised, child_of, total}
 use Rattle.count_core.specs.Terms.{change_of}
 use Rattle.node_forest.proofs.Maps.{trees-forest}
 use Rattle.count_core.proofs.Lists.{default_same}

@@ -1,8 +1,8 @@
 -- The facts of `is_lone` that the check leaves to be shown.
-use Rattle.std.proofs.Common.{◌≡◌, ◌∙◌, ◌∷◌, ◌<◌, ap, arith, sym, refl, subst, get_or, length, List, ℕ}
+use Rattle.std.proofs.Common.{◌∙◌, ◌<◌, ap, arith, sym, refl, subst, get_or, length, List, ℕ}
 use Rattle.node_forest.specs.Forest.{children}
 use Rattle.node_forest.specs.Label.{Node, number}
-use Rattle.count_core.specs.Marks.{LonePath, child_of}
+use Rattle.count_core.specs.Marks.{LonePath}
 use Rattle.count_core.proofs.Edits.{lone_here}
 use Rattle.count_core.proofs.TreeNodes.{children_of}
 use Rattle.count_core.proofs.edit.+is_lone.Goals as goal

@@ -1,5 +1,5 @@
 -- The facts of `child_at` that the check leaves to be shown.
-use Rattle.std.proofs.Common.{◌≡◌, ◌∙◌, ap, arith, sym, get_or, length, List}
+use Rattle.std.proofs.Common.{◌∙◌, ap, arith, sym, get_or, length, List}
 use Rattle.node_forest.specs.Forest.{children}
 use Rattle.node_forest.specs.Label.{Node}
 use Rattle.count_core.proofs.Lists.{get_past, default_same}

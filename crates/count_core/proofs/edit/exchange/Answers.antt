@@ -1,8 +1,8 @@
 -- The facts of `exchange` that the check leaves to be shown.
-use Rattle.std.proofs.Common.{◌≡◌, ◌∙◌, ◌∷◌, [], ◌++◌, ◌<◌, ◌≤◌, ◌^◌, ap, arith, sym, refl, subst, get_or, length, List, ℕ}
+use Rattle.std.proofs.Common.{◌≡◌, ◌∙◌, ◌++◌, ap, arith, sym, refl, subst, length, List, ℕ}
 use Rattle.node_forest.specs.Forest.{children, forest}
-use Rattle.node_forest.specs.Label.{Node, number}
-use Rattle.count_core.specs.Marks.{CanPull, KeepsChild, FitsBranch, edges_after, joined, remaining, outgoing, pulled, unpulled, total, path_after}
+use Rattle.node_forest.specs.Label.{Node}
+use Rattle.count_core.specs.Marks.{CanPull, KeepsChild, edges_after, joined, remaining, outgoing, pulled, unpulled, total, path_after}
 use Rattle.count_core.specs.Terms.{side_of}
 use Rattle.count_core.proofs.TreeNodes.{children_of}
 use Rattle.count_core.proofs.edit.exchange.Goals as goal

@@ -1,6 +1,6 @@
 -- The facts of `marks_of` that the check leaves to be shown.
-use Rattle.std.proofs.Common.{◌≡◌, ◌∙◌, ◌++◌, ◌∷◌, ap, arith, sym, subst, length, get_or, List, take, drop, ℕ, true, false, add-one, suc, set, ◌<◌}
-use Rattle.count_core.specs.Views.{AreDifferent, AreBelow, AreMarks, is_among}
+use Rattle.std.proofs.Common.{◌∙◌, arith, sym, subst, get_or, List, take, drop, ℕ, true, false, suc, set, ◌<◌}
+use Rattle.count_core.specs.Views.{AreDifferent, AreBelow, AreMarks}
 use Rattle.count_core.proofs.Lists.{item_between, default_same, take_item}
 use Rattle.count_core.proofs.Places.{different_not, below_not, marked_last}
 use Rattle.count_core.proofs.view.marks_of.Goals as goal

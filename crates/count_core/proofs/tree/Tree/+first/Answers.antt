@@ -1,5 +1,5 @@
 -- The facts of `first` that the check leaves to be shown.
-use Rattle.std.proofs.Common.{◌∙◌, ap, arith, sym, refl}
+use Rattle.std.proofs.Common.{◌∙◌, ap, arith, sym}
 use Rattle.node_forest.specs.Forest.{forest, nodes_of}
 use Rattle.node_forest.specs.Label.{Node, number}
 use Rattle.node_forest.specs.Counts.{first}

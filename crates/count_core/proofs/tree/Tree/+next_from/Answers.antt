@@ -1,12 +1,11 @@
 -- The facts of `next_from` that the check leaves to be shown.
-use Rattle.std.proofs.Common.{◌≡◌, ◌≤◌, ◌<◌, ◌∙◌, ◌∷◌, [], arith, ap, sym, subst, take, ◌+◌, List}
-use Rattle.std.specs.Prelude.{Some, None, Option}
-use Rattle.node_forest.specs.Forest.{nodes, nodes_of, forest}
-use Rattle.node_forest.specs.Label.{Node, number}
+use Rattle.std.proofs.Common.{◌∙◌, ◌∷◌, [], arith, ap, sym, subst, take, ◌+◌}
+use Rattle.node_forest.specs.Forest.{nodes, nodes_of}
+use Rattle.node_forest.specs.Label.{Node}
 use Rattle.node_forest.proofs.Members.{nodes-forest}
 use Rattle.count_core.specs.Search.{IsNext}
 use Rattle.count_core.proofs.Lists.{take_whole}
-use Rattle.count_core.proofs.Search.{next_tree, next_here, next_not_here}
+use Rattle.count_core.proofs.Search.{next_tree}
 use Rattle.count_core.proofs.tree.Tree.+next_from.Goals as goal
 
 pub loop-child-preserved : goal.loop-child-preserved

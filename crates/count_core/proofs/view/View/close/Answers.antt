@@ -1,5 +1,5 @@
 -- The facts of `close` that the check leaves to be shown.
-use Rattle.std.proofs.Common.{◌∙◌, ap, arith, sym, [], ◌∷◌}
+use Rattle.std.proofs.Common.{◌∙◌, ap, arith, [], ◌∷◌}
 use Rattle.node_forest.specs.Label.{number}
 use Rattle.count_core.specs.Views.{without}
 use Rattle.count_core.proofs.Places.{closes_next}

@@ -1,5 +1,5 @@
 -- The facts of `holds_each` that the check leaves to be shown.
-use Rattle.std.proofs.Common.{rules, ◌≡◌, ◌∙◌, ap, arith, sym, subst, List}
+use Rattle.std.proofs.Common.{rules, ◌≡◌, ◌∙◌, ap, arith, sym, List}
 use Rattle.std.specs.Prelude.{Some, None}
 use Rattle.node_forest.specs.Label.{Node, number}
 use Rattle.node_forest.specs.Counts.{times, first}

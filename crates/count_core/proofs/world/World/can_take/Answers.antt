@@ -1,5 +1,5 @@
 -- The facts of `can_take` that the check leaves to be shown.
-use Rattle.std.proofs.Common.{[], ◌≡◌, ◌∙◌, ap, sym, refl, subst, get_or, arith, List}
+use Rattle.std.proofs.Common.{[], ◌≡◌, ◌∙◌, ap, sym, refl, subst, get_or, List}
 use Rattle.node_forest.specs.Forest.{children}
 use Rattle.node_forest.specs.Label.{Node, number}
 use Rattle.count_core.specs.Views.{AreHeld}

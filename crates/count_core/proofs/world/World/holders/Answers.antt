@@ -1,5 +1,5 @@
 -- The facts of `holders` that the check leaves to be shown.
-use Rattle.std.proofs.Common.{◌≡◌, ◌∙◌, ◌+◌, arith, ap, sym, subst}
+use Rattle.std.proofs.Common.{◌≡◌, ◌∙◌, ◌+◌, arith, ap, subst}
 use Rattle.std.specs.Prelude.{Some, None}
 use Rattle.node_forest.specs.Forest.{nodes_of}
 use Rattle.node_forest.specs.Counts.{first, edges_in}

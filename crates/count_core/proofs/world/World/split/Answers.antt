@@ -1,8 +1,8 @@
 -- The facts of `split` that the check leaves to be shown.
-use Rattle.std.proofs.Common.{◌≡◌, ◌∙◌, ◌++◌, ◌∷◌, [], ap, arith, sym, refl, subst, get_or, set, length, List, ℕ}
+use Rattle.std.proofs.Common.{◌≡◌, ◌∙◌, ◌++◌, ◌∷◌, [], ap, arith, refl, subst, get_or, set, length, List, ℕ}
 use Rattle.std.specs.Prelude.{true, false}
 use Rattle.node_forest.specs.Label.{Node}
-use Rattle.count_core.specs.Views.{AreMarks, AreBelow, chosen, moving, staying}
+use Rattle.count_core.specs.Views.{AreMarks, chosen, moving, staying}
 use Rattle.count_core.proofs.Lists.{default_same, set-last}
 use Rattle.count_core.proofs.Places.{chosen_marked}
 use Rattle.count_core.proofs.world.World.split.Goals as goal

@@ -1,5 +1,5 @@
 -- The facts of `take` that the check leaves to be shown.
-use Rattle.std.proofs.Common.{◌≡◌, ◌∙◌, ◌+◌, ◌++◌, ◌∷◌, [], ap, arith, sym, refl, subst, get_or, set, List}
+use Rattle.std.proofs.Common.{◌≡◌, ◌∙◌, ◌+◌, ◌++◌, ◌∷◌, [], ap, sym, refl, subst, get_or, set, List}
 use Rattle.node_forest.specs.Forest.{children}
 use Rattle.node_forest.specs.Label.{Node}
 use Rattle.count_core.specs.Views.{AreHeld, without_all}
