@@ -1,0 +1,307 @@
+//! Changes in place on a copy of a tree and of the direct holds beside it.
+ghost use Rattle.std.specs.Prelude.{◌≡◌, ℕ, ◌+◌, ◌-◌, ◌^◌, ◌<◌, ◌≤◌, ◌↔◌, List, [], ◌∷◌, ◌++◌, length, slice_index, slice_set, IsTrue, IfOk, IfSome, OnOk, OnErr, MatchOption};
+ghost use Rattle.node_forest.specs.Label.{Node};
+ghost use Rattle.count_core.specs.Marks.{exchange, resized, FitsFlat, edited, edit, edits, holds_of, total, Fits, FitsBranch, FitsAt, FitEach, AreShort, NeverDeeper, LonePath, joined, remaining, outgoing, KeepsChild, path_after, child_of, site};
+ghost use Rattle.count_core.specs.Terms.{change_of, changes_of, side_of};
+
+use crate::change::{Side, TreeChange};
+use crate::memory::Memory;
+use crate::tree::Tree;
+use crate::view::View;
+use node_forest::Kind;
+use std::alloc::Global;
+use std::mem;
+
+/// Lengths on a path that is edited stay below this.
+const LENGTH_LIMIT: u64 = 1 << 63;
+
+/// Whether no change lies deeper than the one before it, and the first no deeper than this.
+pub(crate) fn never_deeper(changes: &[(u8, TreeChange)], deepest: usize) -> bool
+    ensures { IsTrue result ↔ NeverDeeper deepest (changes_of changes.now) }
+{
+    let mut last = deepest;
+    for change in changes {
+        let depth = change.0 as usize;
+        if depth > last {
+            return false;
+        }
+        last = depth;
+    }
+    true
+}
+
+/// The places of a path.
+pub(crate) fn places_of(alloc: Global, path: &[u8]) -> Result<Vec<usize>, Memory>
+    ensures { IfOk result (λ places. places.items ≡ path.now) }
+{
+    let mut places = Vec::new(alloc);
+    for place in path {
+        places.push(*place as usize)?;
+    }
+    Ok(places)
+}
+
+/// Whether the places lead down from the tree, over branches alone but for the end, and the word of each node is 1.
+pub(crate) fn is_lone(words: &[u64], tree: &Tree, path: &[u8]) -> bool
+    ensures { IsTrue result ↔ LonePath (λ n. slice_index words.now n) tree.now path.now }
+{
+    if !is_one(words, tree.number) {
+        return false;
+    }
+    let Some((place, rest)) = path.split_first() else {
+        return true;
+    };
+    let place = *place as usize;
+    if !is_branch(tree) || place >= tree.children.len() {
+        return false;
+    }
+    is_lone(words, child_at(tree, place), rest)
+}
+
+/// Whether the tree is a branch.
+fn is_branch(tree: &Tree) -> bool
+    ensures { IsTrue result ↔ (tree.now.0.kind ≡ Kind.Branch) }
+{
+    matches!(tree.kind, Kind::Branch)
+}
+
+/// Whether the number's word is 1.
+fn is_one(words: &[u64], number: u32) -> bool
+    ensures { IsTrue result ↔ (slice_index words.now number ≡ 1) }
+{
+    (number as usize) < words.len() && words[number as usize] == 1
+}
+
+/// The lengths of the trees together, if they are below the limit.
+fn total(trees: &[Tree]) -> Option<u64>
+    ensures { MatchOption result (2 ^ 63 ≤ total trees.now) (λ sum. (sum ≡ total trees.now) × (sum < 2 ^ 63)) }
+{
+    let mut sum = 0u64;
+    for tree in trees {
+        sum = sum.saturating_add(tree.length);
+        if sum >= LENGTH_LIMIT {
+            return None;
+        }
+    }
+    Some(sum)
+}
+
+/// Whether the nodes of the path below the tree have lengths below the limit.
+fn are_short(tree: &Tree, path: &[usize]) -> bool
+    ensures { IsTrue result ↔ AreShort tree.now path.now }
+{
+    let Some((place, rest)) = path.split_first() else {
+        return true;
+    };
+    let child = child_at(tree, *place);
+    child.length < LENGTH_LIMIT && are_short(child, rest)
+}
+
+/// The child at the place, or the tree itself.
+fn child_at(tree: &Tree, place: usize) -> &Tree
+    ensures { result.now ≡ child_of tree.now place }
+{
+    if place >= tree.children.len() {
+        return tree;
+    }
+    &tree.children[place]
+}
+
+/// Whether the path's child isn't among the edges that go.
+fn keeps_child(side: Side, count: usize, edges: usize, path: &[usize]) -> bool
+    ensures { IsTrue result ↔ KeepsChild (side_of side) count edges path.now }
+{
+    let Some((place, _)) = path.split_first() else {
+        return true;
+    };
+    match side {
+        Side::Front => count <= *place && *place < edges,
+        Side::Back => *place < edges.saturating_sub(count),
+    }
+}
+
+/// The edges of a branch after so many went at the side and these came there, and those that went.
+fn exchanged(
+    mut old: Vec<Tree>,
+    mut new: Vec<Tree>,
+    side: Side,
+    count: usize,
+) -> Result<(Vec<Tree>, Vec<Tree>), Memory>
+    requires { count ≤ length old.items }
+    ensures { IfOk result (λ lists. (lists.0.items ≡ joined (side_of side) new.items (remaining (side_of side) count old.items)) × (lists.1.items ≡ outgoing (side_of side) count old.items)) }
+{
+    match side {
+        Side::Front => {
+            let mut rest = old.split_off(count)?;
+            new.append(&mut rest)?;
+            Ok((new, old))
+        }
+        Side::Back => {
+            let at = old.len() - count;
+            let out = old.split_off(at)?;
+            old.append(&mut new)?;
+            Ok((old, out))
+        }
+    }
+}
+
+/// Edges at a side of a branch become direct holds, and direct holds become its edges there. Answers the new place of the
+/// path's child, or none where this doesn't fit; the tree and the holds are then of no use.
+fn exchange(
+    alloc: Global,
+    tree: &mut Tree,
+    path: &[usize],
+    holds: &mut View,
+    side: Side,
+    count: usize,
+    numbers: &[u32],
+) -> Result<Option<usize>, Memory>
+    ensures { IfOk result (λ done. MatchOption done (FitsBranch (side_of side) count numbers.now tree.old path.now holds.old → ⊥) (λ place. FitsBranch (side_of side) count numbers.now tree.old path.now holds.old × (site tree.new (slice_set path.now 0 place) holds.new ≡ edited (exchange (side_of side) count numbers.now) tree.old path.now holds.old))) }
+{
+    let edges = tree.children.len();
+    if !is_branch(tree) || count > edges || !keeps_child(side, count, edges, path) {
+        return Ok(None);
+    }
+    let Some(new) = holds.pull(alloc, numbers)? else {
+        return Ok(None);
+    };
+    let place = new_place(side, count, edges, new.len(), path);
+    let old = mem::replace(&mut tree.children, Vec::new(alloc));
+    let (kids, out) = exchanged(old, new, side, count)?;
+    let Some(length) = total(&kids) else {
+        return Ok(None);
+    };
+    let many = kids.len();
+    if many < 1 || many > 6 {
+        return Ok(None);
+    }
+    holds.gain(out)?;
+    tree.children = kids;
+    tree.length = length;
+    Ok(Some(place))
+}
+
+/// The place of the path's child after so many edges went at the side and so many came.
+fn new_place(side: Side, count: usize, edges: usize, new: usize, path: &[usize]) -> usize
+    requires keeps { KeepsChild (side_of side) count edges path.now }
+    requires few { edges + new < 2 ^ 64 }
+    ensures { slice_set path.now 0 result ≡ path_after (side_of side) count new path.now }
+{
+    let Some((place, _)) = path.split_first() else {
+        return 0;
+    };
+    match side {
+        Side::Front => *place - count + new,
+        Side::Back => *place,
+    }
+}
+
+/// One change at the node itself, as `exchange`.
+fn edit_here(
+    alloc: Global,
+    tree: &mut Tree,
+    path: &[usize],
+    holds: &mut View,
+    change: &TreeChange,
+) -> Result<Option<usize>, Memory>
+    ensures { IfOk result (λ done. MatchOption done (Fits (change_of change.now) tree.old path.now holds.old → ⊥) (λ place. Fits (change_of change.now) tree.old path.now holds.old × (site tree.new (slice_set path.now 0 place) holds.new ≡ edited (change_of change.now) tree.old path.now holds.old))) }
+{
+    match change {
+        TreeChange::Length { length } => Ok(resize(tree, path, *length)),
+        TreeChange::Add { side, numbers } => exchange(alloc, tree, path, holds, *side, 0, numbers),
+        TreeChange::Drop { side, count } => exchange(
+            alloc,
+            tree,
+            path,
+            holds,
+            *side,
+            *count as usize,
+            &[],
+        ),
+        TreeChange::Swap { side, number } => exchange(
+            alloc,
+            tree,
+            path,
+            holds,
+            *side,
+            1,
+            &[*number],
+        ),
+    }
+}
+
+/// A flat at the path's end gets a length, as `exchange`.
+fn resize(tree: &mut Tree, path: &[usize], length: u64) -> Option<usize>
+    ensures { MatchOption result (FitsFlat length tree.old path.now → ⊥) (λ place. FitsFlat length tree.old path.now × (tree.new ≡ (resized tree.old.0 length [] 0, tree.old.1))) }
+{
+    if tree.kind != Kind::Flat || length == 0 || length >= LENGTH_LIMIT || !path.is_empty() {
+        return None;
+    }
+    tree.length = length;
+    Some(0)
+}
+
+/// One change at a depth of the path. Answers the new place of the path's child there, or none where the change doesn't
+/// fit; the tree and the holds are then of no use.
+fn edit(
+    alloc: Global,
+    tree: &mut Tree,
+    path: &[usize],
+    holds: &mut View,
+    depth: u8,
+    change: &TreeChange,
+) -> Result<Option<usize>, Memory>
+    ensures { IfOk result (λ done. MatchOption done (FitsAt (change_of change.now) depth tree.old path.now holds.old → ⊥) (λ place. FitsAt (change_of change.now) depth tree.old path.now holds.old × (site tree.new (slice_set path.now depth place) holds.new ≡ edit (change_of change.now) depth tree.old path.now holds.old))) }
+{
+    if depth == 0 {
+        if !are_short(tree, path) {
+            return Ok(None);
+        }
+        return edit_here(alloc, tree, path, holds, change);
+    }
+    let Some((place, rest)) = path.split_first() else {
+        return Ok(None);
+    };
+    if *place >= tree.children.len() {
+        return Ok(None);
+    }
+    let child = &mut tree.children[*place];
+    let Some(new_place) = edit(alloc, child, rest, holds, depth - 1, change)? else {
+        return Ok(None);
+    };
+    let Some(sum) = total(&tree.children) else {
+        return Ok(None);
+    };
+    tree.length = sum;
+    Ok(Some(new_place))
+}
+
+/// The changes of a list, one after another. Answers the direct holds after them, the tree last, or none where one of
+/// them doesn't fit.
+pub(crate) fn edits(
+    alloc: Global,
+    mut tree: Tree,
+    mut path: Vec<usize>,
+    mut holds: View,
+    changes: &[(u8, TreeChange)],
+) -> Result<Option<View>, Memory>
+    ensures { IfOk result (λ done. MatchOption done (FitEach (changes_of changes.now) (site tree path.items holds) → ⊥) (λ view. FitEach (changes_of changes.now) (site tree path.items holds) × (view ≡ holds_of (edits (changes_of changes.now) (site tree path.items holds))))) }
+{
+    for (depth, change) in changes {
+        let Some(place) = edit(alloc, &mut tree, &path, &mut holds, *depth, change)? else {
+            return Ok(None);
+        };
+        set_place(&mut path, *depth as usize, place);
+    }
+    holds.add(tree)?;
+    Ok(Some(holds))
+}
+
+/// The path's child at a depth has a new place; at the path's end there is none.
+fn set_place(path: &mut [usize], depth: usize, place: usize)
+    ensures { path.new ≡ slice_set path.old depth place }
+{
+    if depth < path.len() {
+        path[depth] = place;
+    }
+}

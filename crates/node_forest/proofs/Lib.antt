@@ -1,0 +1,5 @@
+-- The lemmas of this crate.
+pub mod Maps
+pub mod Members
+pub mod Counts
+pub mod Same

@@ -1,0 +1,6 @@
+-- The definitions of this crate.
+pub mod Forest
+pub mod Label
+pub mod Members
+pub mod Counts
+pub mod Codes
