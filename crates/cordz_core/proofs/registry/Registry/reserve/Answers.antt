@@ -1,0 +1,15 @@
+-- A slot that is given did not wait.
+use Rattle.std.proofs.Common.{◌≡◌, ◌≢◌, ◌<◌, ℕ, Some, None, refl, sym, ap, ◌∙◌, subst, arith, rules, lit<, ⊎_elim, length, drop}
+use Rattle.std.specs.Prelude.{remove}
+use Rattle.cordz_core.specs.Contents.{Contents, state_of, birth_of, IsSound, entry_in}
+use Rattle.cordz_core.specs.Inside.{contents_of}
+use Rattle.cordz_core.specs.Links.{cleared}
+use Rattle.cordz_core.specs.Queue.{Apart, codes, leading, without_walker, AllFit, kept_behind}
+use Rattle.cordz_core.specs.declared.slot.Entry.{Entry}
+use Rattle.cordz_core.specs.declared.slot.SlotState.TheVariants.{Free, Queued}
+use Rattle.cordz_core.proofs.Sound.{sound_set, sound_unlinked, unlinked_moves, sound_ended, ended_ends, apart_without, fit_without, fits_from_marked, drop_leading, not_queued}
+use Rattle.cordz_core.proofs.registry.Registry.reserve.Goals as goal
+
+pub invariant_of-self : goal.invariant_of-self
+invariant_of-self c = sound_set (contents_of c.self.inside) c.self.invariant _ c.in-Some.at _ (let h = c.self.invariant.stamps in omega arith) refl refl refl refl (omega arith)
+    (λ e. (let g : Free ≡ Queued = sym c.in-Some.ensures.found ∙ e in cc))

@@ -1,0 +1,11 @@
+-- A slot that is linked did not wait.
+use Rattle.std.proofs.Common.{◌≡◌, ◌≢◌, ◌<◌, ℕ, Some, None, refl, sym, ap, ◌∙◌, subst, arith, rules, lit<, ⊎_elim, length}
+use Rattle.cordz_core.specs.Contents.{Contents, state_of, birth_of, IsSound, entry_in}
+use Rattle.cordz_core.specs.Inside.{contents_of}
+use Rattle.cordz_core.specs.declared.slot.Entry.{Entry}
+use Rattle.cordz_core.proofs.Sound.{sound_set, sound_moved, sound_queued, sound_begun, sound_ended, not_queued, all_blank, room_for, room_for_walker, marked_same, marked_entry, not_waiting, state_pointed_on, length-pointed_on}
+use Rattle.cordz_core.proofs.registry.Registry.track.Goals as goal
+
+pub invariant_of-self : goal.invariant_of-self
+invariant_of-self c = sound_set (contents_of c.self.inside) c.self.invariant _ c.args.slot _ (let h = c.self.invariant.stamps in omega arith) refl refl refl refl c.requires.slot
+    (not_queued _ _ c.args.slot _ c.self.view_is c.requires.reserved (λ e. cc))

@@ -1,0 +1,18 @@
+-- A record that leaves the list did not wait, and its neighbours keep their states.
+use Rattle.std.proofs.Common.{◌≡◌, ◌≢◌, ◌<◌, ℕ, Some, None, refl, sym, ap, ◌∙◌, subst, arith, rules, lit<, ⊎_elim, length, drop}
+use Rattle.std.specs.Prelude.{remove}
+use Rattle.cordz_core.specs.Contents.{Contents, state_of, birth_of, IsSound, entry_in}
+use Rattle.cordz_core.specs.Inside.{contents_of}
+use Rattle.cordz_core.specs.Links.{cleared}
+use Rattle.cordz_core.specs.Queue.{Apart, codes, leading, without_walker, AllFit, kept_behind}
+use Rattle.cordz_core.specs.declared.slot.Entry.{Entry}
+use Rattle.cordz_core.specs.declared.slot.SlotState.TheVariants.{Free, Queued}
+use Rattle.cordz_core.proofs.Sound.{sound_set, sound_unlinked, unlinked_moves, sound_ended, ended_ends, apart_without, fit_without, fits_from_marked, drop_leading, not_queued}
+use Rattle.cordz_core.proofs.registry.Registry.unlink.Goals as goal
+
+pub invariant_of-self : goal.invariant_of-self
+invariant_of-self c = sound_unlinked (contents_of c.self.inside) c.self.invariant _ c.args.slot _ _ _ (let h = c.self.invariant.stamps in omega arith) refl c.point_on.ensures refl refl c.requires.slot
+    (not_queued _ _ c.args.slot _ c.self.view_is c.requires.linked (λ e. cc))
+
+pub returns-clause-moves : goal.returns-clause-moves
+returns-clause-moves c = unlinked_moves (contents_of c.self.inside) c.self.invariant _ _ c.args.slot _ _ _ c.self.view_is refl refl refl c.point_on.ensures c.requires.slot

@@ -1,0 +1,6 @@
+pub mod Contents
+pub mod History
+pub mod Inside
+pub mod Links
+pub mod Queue
+pub mod Times
