@@ -1,2 +1,11 @@
+pub mod Deletions
+pub mod Lists
+pub mod Nexts
 pub mod Numbers
+pub mod Queues
+pub mod Records
 pub mod Sound
+pub mod States
+pub mod Steps
+pub mod Unlinks
+pub mod Waitings

@@ -15,7 +15,7 @@ use Rattle.cordz_core.specs.declared.queue.Waiting.{Waiting}
 use Rattle.cordz_core.specs.declared.queue.Waiting.TheVariants.{Snapshot, Record}
 use Rattle.cordz_core.specs.Queue.{has, Apart, codes, code_of, leading, kept_behind, without_walker, AllFit}
 use Rattle.cordz_core.specs.Contents.{Contents, blank, entry_in, birth_in, state_of, birth_of, AllMarked, IsSound}
-use Rattle.cordz_core.specs.Links.{pointed_back, pointed_on, with_next, with_state, head_after, cleared, Moves, Ends}
+use Rattle.cordz_core.specs.Links.{pointed_back, pointed_on, with_next, with_state, head_left, cleared, Moves, Ends}
 use Rattle.cordz_core.proofs.Numbers.{AllBelow, room, apart_push, dropped, dropped_apart, few, has_dropped, has_push_true, has_push_same, has_other}
 
 or_false : (a b : Bool) → a ≡ false → b ≡ false → (a || b) ≡ false
@@ -231,26 +231,27 @@ state_set : (es : List Entry) (s x : ℕ) (e : Entry) → x ≢ s → (entry_in 
 state_set es s x e ne = ap (λ z. z.state) (get_or-set_other es s x e blank ne)
 
 module _ (v : Contents) (sound : IsSound v) where
-  pub sound_moved : (w : Contents) → w.stamps ≤ w.clock → w.walkers ≡ v.walkers → length w.entries ≡ 256 → w.births ≡ v.births → w.queue ≡ v.queue → AllMarked w.entries v.births v.queue → IsSound w
-  sound_moved w stamps walkers entries births queue marked = record {
+  pub sound_moved : (w : Contents) → w.stamps ≤ w.clock → w.walkers ≡ v.walkers → length w.newer ≡ length v.newer → length w.entries ≡ 256 → w.births ≡ v.births → w.queue ≡ v.queue → AllMarked w.entries v.births v.queue → IsSound w
+  sound_moved w stamps walkers newer entries births queue marked = record {
     stamps = stamps;
     walkers = (let h = sound.walkers in omega arith);
     entries = entries;
+    newer = newer ∙ sound.newer;
     births = ap length births ∙ sound.births;
     apart = subst (λ q. Apart (codes q)) (sym queue) sound.apart;
     marked = subst (λ (z : List (Option Clock) × List Waiting). AllMarked w.entries z.0 z.1) (λ i. (sym births i, sym queue i)) marked;
     present = subst (λ (z : List (Option Clock) × List Waiting). (n : ℕ) → n < 16 → IsSome (birth_in z.0 n) → has (256 + n) (codes z.1) ≡ true) (λ i. (sym births i, sym queue i)) sound.present;
   }
 
-  pub sound_set : (w : Contents) (s : ℕ) (e : Entry) → w.stamps ≤ w.clock → w.walkers ≡ v.walkers → w.entries ≡ slice_set v.entries s e → w.births ≡ v.births → w.queue ≡ v.queue → s < 256 → state_of v s ≢ Queued → IsSound w
-  sound_set w s e stamps walkers entries births queue less ne =
-      sound_moved w stamps walkers (ap length entries ∙ (length-set v.entries s e ∙ sound.entries)) births queue
+  pub sound_set : (w : Contents) (s : ℕ) (e : Entry) → w.stamps ≤ w.clock → w.walkers ≡ v.walkers → length w.newer ≡ length v.newer → w.entries ≡ slice_set v.entries s e → w.births ≡ v.births → w.queue ≡ v.queue → s < 256 → state_of v s ≢ Queued → IsSound w
+  sound_set w s e stamps walkers newer entries births queue less ne =
+      sound_moved w stamps walkers newer (ap length entries ∙ (length-set v.entries s e ∙ sound.entries)) births queue
       (subst (λ es. AllMarked es v.births v.queue) (sym entries) (marked_entry _ _ _ s e (not_waiting _ _ _ s sound.marked less ne) sound.marked))
 
   -- a slot joins the queue
-  pub sound_queued : (w : Contents) (s : ℕ) (e : Entry) (p : Clock) → w.stamps ≤ w.clock → w.walkers ≡ v.walkers → w.entries ≡ slice_set v.entries s e → e.state ≡ Queued → w.births ≡ v.births → w.queue ≡ v.queue ++ Record (record { number = s }) p ∷ []
+  pub sound_queued : (w : Contents) (s : ℕ) (e : Entry) (p : Clock) → w.stamps ≤ w.clock → w.walkers ≡ v.walkers → length w.newer ≡ length v.newer → w.entries ≡ slice_set v.entries s e → e.state ≡ Queued → w.births ≡ v.births → w.queue ≡ v.queue ++ Record (record { number = s }) p ∷ []
       → s < 256 → state_of v s ≢ Queued → IsSound w
-  sound_queued w s e p stamps walkers entries to births queue less ne =
+  sound_queued w s e p stamps walkers newer entries to births queue less ne =
       let fresh = not_waiting _ _ _ s sound.marked less ne in
       let more = codes_push v.queue (Record (record { number = s }) p) in
       let pushed = ap codes queue ∙ more in
@@ -258,6 +259,7 @@ module _ (v : Contents) (sound : IsSound v) where
         stamps = stamps;
         walkers = (let h = sound.walkers in omega arith);
         entries = ap length entries ∙ (length-set v.entries s e ∙ sound.entries);
+        newer = newer ∙ sound.newer;
         births = ap length births ∙ sound.births;
         apart = subst Apart (sym pushed) (apart_push s (codes v.queue) sound.apart fresh);
         marked = subst (λ (z : List Entry × List (Option Clock) × List Waiting). AllMarked z.0 z.1 z.2) (λ i. (sym entries i, sym births i, sym queue i))
@@ -266,15 +268,16 @@ module _ (v : Contents) (sound : IsSound v) where
         present = λ n small some. ap (has (256 + n)) pushed ∙ has_push_true (256 + n) s (codes v.queue) (sound.present n small (subst (λ bs. IsSome (birth_in bs n)) births some));
       }
 
-  pub sound_begun : (w : Contents) (k : ℕ) (b : Clock) → w.stamps ≤ w.clock → w.walkers ≡ v.walkers → w.entries ≡ v.entries → w.births ≡ slice_set v.births k (Some b) → w.queue ≡ v.queue ++ Snapshot (record { number = k }) b ∷ []
+  pub sound_begun : (w : Contents) (k : ℕ) (b : Clock) → w.stamps ≤ w.clock → w.walkers ≡ v.walkers → length w.newer ≡ length v.newer → w.entries ≡ v.entries → w.births ≡ slice_set v.births k (Some b) → w.queue ≡ v.queue ++ Snapshot (record { number = k }) b ∷ []
       → k < 16 → birth_of v k ≡ None → IsSound w
-  sound_begun w k b stamps walkers entries births queue less none =
+  sound_begun w k b stamps walkers newer entries births queue less none =
       let fresh = no_snapshot _ _ _ k sound.marked none in
       let pushed = ap codes queue ∙ codes_push v.queue (Snapshot (record { number = k }) b) in
       record {
         stamps = stamps;
         walkers = (let h = sound.walkers in omega arith);
         entries = ap length entries ∙ sound.entries;
+        newer = newer ∙ sound.newer;
         births = ap length births ∙ (length-set v.births k (Some b) ∙ sound.births);
         apart = subst Apart (sym pushed) (apart_push (256 + k) (codes v.queue) sound.apart fresh);
         marked = subst (λ (z : List Entry × List (Option Clock) × List Waiting). AllMarked z.0 z.1 z.2) (λ i. (sym entries i, sym births i, sym queue i))
@@ -287,8 +290,8 @@ module _ (v : Contents) (sound : IsSound v) where
       held n small some (inl same) = ap (λ m. has (256 + m) (codes v.queue ++ (256 + k) ∷ [])) same ∙ has_push_same (256 + k) (codes v.queue)
       held n small some (inr other) = has_push_true (256 + n) (256 + k) (codes v.queue) (sound.present n small (subst IsSome (ap (λ bs. birth_in bs n) births ∙ get_or-set_other v.births k n (Some b) None other) some))
 
-  pub sound_ended : (w : Contents) (k : ℕ) → w.stamps ≤ w.clock → w.walkers ≡ v.walkers → w.entries ≡ cleared v.entries (leading (without_walker k v.queue)) → w.births ≡ slice_set v.births k None → w.queue ≡ kept_behind (without_walker k v.queue) → k < 16 → IsSound w
-  sound_ended w k stamps walkers entries births queue less =
+  pub sound_ended : (w : Contents) (k : ℕ) → w.stamps ≤ w.clock → w.walkers ≡ v.walkers → length w.newer ≡ length v.newer → w.entries ≡ cleared v.entries (leading (without_walker k v.queue)) → w.births ≡ slice_set v.births k None → w.queue ≡ kept_behind (without_walker k v.queue) → k < 16 → IsSound w
+  sound_ended w k stamps walkers newer entries births queue less =
       let fit = fits_from_marked _ _ _ sound.marked in
       let q1 = without_walker k v.queue in
       let is = codes_without k v.queue fit in
@@ -299,6 +302,7 @@ module _ (v : Contents) (sound : IsSound v) where
         stamps = stamps;
         walkers = (let h = sound.walkers in omega arith);
         entries = ap length entries ∙ (length-cleared v.entries (leading q1) ∙ sound.entries);
+        newer = newer ∙ sound.newer;
         births = ap length births ∙ (length-set v.births k None ∙ sound.births);
         apart = subst (λ q. Apart (codes q)) (sym queue) (apart_behind q1 apart);
         marked = subst (λ (z : List Entry × List (Option Clock) × List Waiting). AllMarked z.0 z.1 z.2) (λ i. (sym entries i, sym births i, sym queue i)) (marked_cleared _ _ q1 apart marked);
@@ -365,9 +369,9 @@ all_blank (suc n) zero = refl
 all_blank (suc n) (suc s) = all_blank n s
 
 module _ (v : Contents) (sound : IsSound v) where
-  pub sound_unlinked : (w : Contents) (s : ℕ) (e : Entry) (p to : Option Slot) → w.stamps ≤ w.clock → w.walkers ≡ v.walkers → w.entries ≡ pointed_on (slice_set v.entries s e) p to → w.births ≡ v.births → w.queue ≡ v.queue → s < 256 → state_of v s ≢ Queued → IsSound w
-  sound_unlinked w s e p to stamps walkers entries births queue less ne =
-      sound_moved v sound w stamps walkers (ap length entries ∙ (length-pointed_on _ p to ∙ (length-set v.entries s e ∙ sound.entries))) births queue
+  pub sound_unlinked : (w : Contents) (s : ℕ) (e : Entry) (p to : Option Slot) → w.stamps ≤ w.clock → w.walkers ≡ v.walkers → length w.newer ≡ length v.newer → w.entries ≡ pointed_on (slice_set v.entries s e) p to → w.births ≡ v.births → w.queue ≡ v.queue → s < 256 → state_of v s ≢ Queued → IsSound w
+  sound_unlinked w s e p to stamps walkers newer entries births queue less ne =
+      sound_moved v sound w stamps walkers newer (ap length entries ∙ (length-pointed_on _ p to ∙ (length-set v.entries s e ∙ sound.entries))) births queue
       (subst (λ es. AllMarked es v.births v.queue) (sym entries)
       (marked_same _ _ v.births v.queue (state_pointed_on (slice_set v.entries s e) p to) (marked_entry _ _ _ s e (not_waiting _ _ _ s sound.marked less ne) sound.marked)))
 
@@ -397,3 +401,17 @@ module _ (v : Contents) (sound : IsSound v) where
         birth = ap (λ bs. birth_in bs k) births ∙ get_or-set_same v.births k None None (let h = sound.births in omega arith);
         others = λ n ne. ap (λ bs. birth_in bs n) births ∙ (get_or-set_other v.births k n None None ne ∙ ap (λ z. birth_of z n) same);
       }
+
+pub length-pointed_back : (xs : List (Option Slot)) (p to : Option Slot) → length (pointed_back xs p to) ≡ length xs
+length-pointed_back xs None to = refl
+length-pointed_back xs (Some s) to = length-set xs s.number to
+
+-- clearing changes states alone
+pub cleared_keeps : {X : Type 0} (f : Entry → X) → ((e : Entry) (x : SlotState) → f (with_state e x) ≡ f e) → (ss : List ℕ) (es : List Entry) (s : ℕ) → f (entry_in (cleared es ss) s) ≡ f (entry_in es s)
+cleared_keeps f same [] es s = refl
+cleared_keeps f same (r ∷ ss) es s = cleared_keeps f same ss _ s ∙ written (cases_eq s r) (cases_lt r (length es))
+  where
+    written : (s ≡ r) ⊎ (s ≢ r) → (r < length es) ⊎ (length es ≤ r) → f (entry_in (slice_set es r (with_state (entry_in es r) Clearing)) s) ≡ f (entry_in es s)
+    written (inr ne) l = ap f (get_or-set_other es r s _ blank ne)
+    written (inl is) (inl less) = ap (λ k. f (entry_in (slice_set es r (with_state (entry_in es r) Clearing)) k)) is ∙ (ap f (get_or-set_same es r (with_state (entry_in es r) Clearing) blank less) ∙ (same (entry_in es r) Clearing ∙ ap (λ k. f (entry_in es k)) (sym is)))
+    written (inl is) (inr past) = ap (λ l. f (entry_in l s)) (set_past es r _ past)

@@ -54,6 +54,7 @@ pub record IsSound (v : Contents) : Type 0 where
   pub stamps : v.stamps ≤ v.clock
   pub walkers : v.walkers ≤ 16
   pub entries : length v.entries ≡ 256
+  pub newer : length v.newer ≡ 256
   pub births : length v.births ≡ 16
   pub apart : Apart (codes v.queue)
   pub marked : AllMarked v.entries v.births v.queue

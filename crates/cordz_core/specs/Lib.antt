@@ -1,6 +1,7 @@
 pub mod Contents
 pub mod History
 pub mod Inside
+pub mod Legal
 pub mod Links
 pub mod Queue
 pub mod Times

@@ -26,9 +26,9 @@ pointed_on es None to = es
 pointed_on es (Some s) to = slice_set es s.number (with_next (entry_in es s.number) to)
 
 -- the head, after the record between these two left
-abbrev pub head_after : Option Slot → Option Slot → Option Slot → Option Slot
-head_after head None next = next
-head_after head (Some s) next = head
+abbrev pub head_left : Option Slot → Option Slot → Option Slot → Option Slot
+head_left head None next = next
+head_left head (Some s) next = head
 
 -- these slots are to be cleared
 abbrev pub cleared : List Entry → List ℕ → List Entry

@@ -1,7 +1,7 @@
 //! The doubly linked list of records, in arrays: what is written where a record comes or goes.
 ghost use Rattle.std.specs.Prelude.{◌≡◌, ◌≤◌, ℕ, ◌<◌, length, All, IsNone, IfSome, MatchOption};
 ghost use Rattle.cordz_core.specs.Contents.{entry_in};
-ghost use Rattle.cordz_core.specs.Links.{pointed_back, pointed_on, head_after, cleared};
+ghost use Rattle.cordz_core.specs.Links.{pointed_back, pointed_on, head_left, cleared};
 
 use crate::slot::{Entry, Slot, SlotState};
 
@@ -29,7 +29,7 @@ pub(crate) fn head_without(
     newer: Option<Slot>,
     next: Option<Slot>,
 ) -> Option<Slot>
-    ensures { result ≡ head_after head newer next }
+    ensures { result ≡ head_left head newer next }
 {
     match newer {
         None => next,

@@ -1,6 +1,8 @@
 //! The registry and its calls.
-ghost use Rattle.std.specs.Prelude.{◌≡◌, ◌≢◌, ◌↔◌, ◌⊎◌, ℕ, ◌+◌, ◌-◌, ◌^◌, ◌<◌, ◌≤◌, [], length, IfOk, OnOk, OnErr, IfErr, IsErr, IsSome, IsNone, IsTrue};
+ghost use Rattle.std.specs.Prelude.{◌≡◌, ◌≢◌, ◌↔◌, ◌⊎◌, ℕ, ◌+◌, ◌-◌, ◌^◌, ◌<◌, ◌≤◌, [], ◌∷◌, length, IfOk, OnOk, OnErr, IfErr, IsErr, IsSome, IsNone, IsTrue};
 ghost use Rattle.cordz_core.specs.Contents.{Contents, entry_in, state_of, birth_of};
+ghost use Rattle.cordz_core.specs.History.{History, Reserves, Frees, Tracks, Unlinks, Settles, Snaps, Unsnaps};
+ghost use Rattle.cordz_core.specs.Legal.{Replays, head_after, next_after};
 ghost use Rattle.cordz_core.specs.Links.{Moves, Begins, Ends, moved_to};
 ghost use Rattle.cordz_core.specs.Queue.{leading, without_walker};
 
@@ -44,6 +46,7 @@ impl Registry {
         ensures clock { result.clock ≡ 0 }
         ensures states { (s : ℕ) → state_of result s ≡ SlotState.Free }
         ensures walking { (w : ℕ) → birth_of result w ≡ None }
+        ensures history { Replays [] result }
     {
         Registry {
             walkers,
@@ -89,6 +92,7 @@ impl Registry {
         ensures full { OnErr result ((s : ℕ) → s < 256 → state_of self.old s ≢ SlotState.Free) }
         ensures in_use { IfErr result (λ e. e.in_use ≡ 256) }
         ensures unchanged { OnErr result (self.new ≡ self.old) }
+        ensures history { IfOk result (λ r. (h : History) → Replays h self.old → Replays (Reserves r.0 ∷ h) self.new) }
     {
         let Some(at) = first_free(&self.entries) else {
             return Err(RecordsFull { in_use: 256 });
@@ -109,6 +113,7 @@ impl Registry {
         requires unused { (state_of self.old slot ≡ SlotState.Reserved) ⊎ (state_of self.old slot ≡ SlotState.Clearing) }
         ensures moves { Moves self.old self.new slot SlotState.Free }
         ensures stamps { self.new.stamps ≡ self.old.stamps }
+        ensures history { (h : History) → Replays h self.old → Replays (Frees slot ∷ h) self.new }
     {
         self.clock.ticks += 1;
         self.entries[slot as usize].state = SlotState::Free;
@@ -121,6 +126,7 @@ impl Registry {
         requires reserved { state_of self.old slot ≡ SlotState.Reserved }
         ensures moves { Moves self.old self.new slot SlotState.Linked }
         ensures stamps { self.new.stamps ≡ self.old.stamps }
+        ensures history { (h : History) → Replays h self.old → Replays (Tracks slot ∷ h) self.new }
     {
         let linked = Slot { number: slot as u8 };
         let next = self.head;
@@ -142,6 +148,7 @@ impl Registry {
         requires linked { state_of self.old slot ≡ SlotState.Linked }
         ensures moves { Moves self.old self.new slot SlotState.Leaving }
         ensures stamps { self.new.stamps ≡ self.old.stamps }
+        ensures history { (h : History) → Replays h self.old → Replays (Unlinks slot ∷ h) self.new }
     {
         self.clock.ticks += 1;
         let next = self.entries[slot as usize].next;
@@ -160,6 +167,7 @@ impl Registry {
         ensures deleted { (result ≡ Settled.Deleted) ↔ (self.old.queue ≡ []) }
         ensures moves { Moves self.old self.new slot (moved_to result) }
         ensures stamps { self.new.stamps ≡ self.old.stamps }
+        ensures history { (h : History) → Replays h self.old → Replays (Settles slot ∷ h) self.new }
     {
         self.clock.ticks += 1;
         let now = self.clock;
@@ -181,6 +189,7 @@ impl Registry {
         requires none { birth_of self.old walker ≡ None }
         ensures begins { Begins self.old self.new walker }
         ensures stamps { self.new.stamps ≡ self.old.stamps }
+        ensures history { (h : History) → Replays h self.old → Replays (Snaps walker ∷ h) self.new }
     {
         self.clock.ticks += 1;
         let now = self.clock;
@@ -197,6 +206,7 @@ impl Registry {
         ensures deleted { result.items ≡ leading (without_walker walker self.old.queue) }
         ensures ends { Ends self.old self.new walker result.items }
         ensures stamps { self.new.stamps ≡ self.old.stamps }
+        ensures history { (h : History) → Replays h self.old → Replays (Unsnaps walker ∷ h) self.new }
     {
         self.clock.ticks += 1;
         self.births[walker as usize] = None;
@@ -209,7 +219,9 @@ impl Registry {
     }
 
     /// The newest linked record, where a walk begins.
-    pub fn head(&self) -> Option<u16> {
+    pub fn head(&self) -> Option<u16>
+        ensures { (h : History) → Replays h self.now → result ≡ head_after h }
+    {
         match self.head {
             Some(slot) => Some(slot.number as u16),
             None => None,
@@ -220,6 +232,7 @@ impl Registry {
     pub fn next(&self, slot: u16) -> Option<u16>
         requires slot { slot < 256 }
         requires walked { (state_of self.now slot ≡ SlotState.Linked) ⊎ ((state_of self.now slot ≡ SlotState.Leaving) ⊎ (state_of self.now slot ≡ SlotState.Queued)) }
+        ensures { (h : History) → Replays h self.now → result ≡ next_after h slot }
     {
         match self.entries[slot as usize].next {
             Some(slot) => Some(slot.number as u16),

@@ -3,9 +3,17 @@ use Rattle.std.proofs.Common.{◌≡◌, ◌≢◌, ◌<◌, ℕ, Some, None, re
 use Rattle.cordz_core.specs.Contents.{Contents, state_of, birth_of, IsSound, entry_in}
 use Rattle.cordz_core.specs.Inside.{contents_of}
 use Rattle.cordz_core.specs.declared.slot.Entry.{Entry}
-use Rattle.cordz_core.proofs.Sound.{sound_set, sound_moved, sound_queued, sound_begun, sound_ended, not_queued, all_blank, room_for, room_for_walker, marked_same, marked_entry, not_waiting, state_pointed_on, length-pointed_on}
+use Rattle.cordz_core.proofs.Sound.{length-pointed_back, sound_set, sound_moved, sound_queued, sound_begun, sound_ended, not_queued, all_blank, room_for, room_for_walker, marked_same, marked_entry, not_waiting, state_pointed_on, length-pointed_on}
+use Rattle.std.proofs.lemmas.List.{length-set}
+use Rattle.std.proofs.Common.{◌-◌, ◌^◌, inl, inr}
+use Rattle.std.specs.Prelude.{slice_set}
+use Rattle.cordz_core.specs.Legal.{Replays}
+use Rattle.cordz_core.proofs.Steps.{tracked_replays}
 use Rattle.cordz_core.proofs.registry.Registry.track.Goals as goal
 
 pub invariant_of-self : goal.invariant_of-self
-invariant_of-self c = sound_set (contents_of c.self.inside) c.self.invariant _ c.args.slot _ (let h = c.self.invariant.stamps in omega arith) refl refl refl refl c.requires.slot
+invariant_of-self c = sound_set (contents_of c.self.inside) c.self.invariant _ c.args.slot _ (let h = c.self.invariant.stamps in omega arith) refl (length-set _ _ _ ∙ (ap length c.point_back.ensures ∙ length-pointed_back _ _ _)) refl refl refl c.requires.slot
     (not_queued _ _ c.args.slot _ c.self.view_is c.requires.reserved (λ e. cc))
+
+pub returns-clause-history : goal.returns-clause-history
+returns-clause-history c = λ h rep. tracked_replays h (contents_of c.self.inside) (subst (Replays h) (sym c.self.view_is) rep) c.self.invariant c.args.slot _ c.requires.slot (ap (λ z. state_of z c.args.slot) c.self.view_is ∙ c.requires.reserved) _ _ (subst (λ (z : Contents). z.clock < 2 ^ 64 - 1) (sym c.self.view_is) c.requires.clock) refl refl refl refl refl refl refl (ap (λ l. slice_set l c.args.slot None) c.point_back.ensures) refl refl

@@ -8,6 +8,10 @@ use Rattle.cordz_core.specs.Queue.{Apart, codes, leading, without_walker, AllFit
 use Rattle.cordz_core.specs.declared.slot.Entry.{Entry}
 use Rattle.cordz_core.specs.declared.slot.SlotState.TheVariants.{Free, Queued}
 use Rattle.cordz_core.proofs.Sound.{sound_set, sound_unlinked, unlinked_moves, sound_ended, ended_ends, apart_without, fit_without, fits_from_marked, drop_leading, not_queued}
+use Rattle.std.proofs.Common.{◌-◌, ◌^◌, inl, inr}
+use Rattle.std.specs.Prelude.{IsSome}
+use Rattle.cordz_core.specs.Legal.{Replays}
+use Rattle.cordz_core.proofs.Queues.{ended_replays}
 use Rattle.cordz_core.proofs.registry.Registry.unsnap.Goals as goal
 
 -- the queue without the snapshot, as it was read
@@ -45,7 +49,10 @@ behind c =
     c.behind-self-inside.ensures ∙ (ap (λ n. drop n c.deref-3.result.now) many ∙ (ap (λ l. drop (length (leading (without_walker c.args.walker c.self.inside.queue.items))) l) same ∙ drop_leading (without_walker c.args.walker c.self.inside.queue.items)))
 
 pub invariant_of-self : goal.invariant_of-self
-invariant_of-self c = sound_ended (contents_of c.self.inside) c.self.invariant _ c.args.walker (let h = c.self.invariant.stamps in omega arith) refl (entries c ∙ ap (cleared c.self.inside.entries) (given c)) refl (behind c) c.requires.walker
+invariant_of-self c = sound_ended (contents_of c.self.inside) c.self.invariant _ c.args.walker (let h = c.self.invariant.stamps in omega arith) refl refl (entries c ∙ ap (cleared c.self.inside.entries) (given c)) refl (behind c) c.requires.walker
 
 pub returns-clause-ends : goal.returns-clause-ends
 returns-clause-ends c = ended_ends (contents_of c.self.inside) c.self.invariant _ _ c.args.walker _ c.self.view_is refl refl refl (given c) (entries c) c.requires.walker
+
+pub returns-clause-history : goal.returns-clause-history
+returns-clause-history c = λ h rep. ended_replays h (contents_of c.self.inside) (subst (Replays h) (sym c.self.view_is) rep) c.self.invariant c.args.walker _ _ c.requires.walker (subst (λ (z : Contents). IsSome (birth_of z c.args.walker)) (sym c.self.view_is) c.requires.one) (subst (λ (z : Contents). z.clock < 2 ^ 64 - 1) (sym c.self.view_is) c.requires.clock) refl refl refl refl (given c) (entries c) refl refl (behind c)
