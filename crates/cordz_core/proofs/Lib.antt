@@ -1,3 +1,4 @@
+pub mod Deleting
 pub mod Deletions
 pub mod Lists
 pub mod Nexts
@@ -9,3 +10,4 @@ pub mod States
 pub mod Steps
 pub mod Unlinks
 pub mod Waitings
+pub mod Walking

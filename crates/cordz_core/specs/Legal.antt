@@ -116,3 +116,18 @@ course_of (Some r) = r.course
 
 abbrev pub IsDeletionOf : History → ℕ → ℕ → Type 0
 IsDeletionOf h s place = IsDeletionPlace (snapshots h) (course_of (record_in (records h) s)) place
+
+-- the place at which a slot's record was settled
+abbrev pub settled_at : Course → ℕ
+settled_at Stays = 0
+settled_at (Left u) = 0
+settled_at (Done u p) = p
+
+abbrev pub settle_places : History → List ℕ → List ℕ
+settle_places h [] = []
+settle_places h (s ∷ ss) = settled_at (course_of (record_in (records h) s)) ∷ settle_places h ss
+
+-- the numbers rise, from above this one
+abbrev pub IsRisingFrom : ℕ → List ℕ → Type 0
+IsRisingFrom b [] = Unit {0}
+IsRisingFrom b (x ∷ xs) = (b < x) × IsRisingFrom x xs

@@ -5,3 +5,4 @@ pub mod Legal
 pub mod Links
 pub mod Queue
 pub mod Times
+pub mod Walks

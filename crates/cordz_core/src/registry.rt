@@ -1,10 +1,10 @@
 //! The registry and its calls.
-ghost use Rattle.std.specs.Prelude.{◌≡◌, ◌≢◌, ◌↔◌, ◌⊎◌, ℕ, ◌+◌, ◌-◌, ◌^◌, ◌<◌, ◌≤◌, [], ◌∷◌, length, IfOk, OnOk, OnErr, IfErr, IsErr, IsSome, IsNone, IsTrue};
+ghost use Rattle.std.specs.Prelude.{◌≡◌, ◌≢◌, ◌↔◌, ◌⊎◌, ℕ, ◌+◌, ◌-◌, ◌^◌, ◌<◌, ◌≤◌, [], ◌∷◌, length, IfOk, OnOk, OnErr, IfErr, IsErr, IsSome, IsNone, IsTrue, true};
 ghost use Rattle.cordz_core.specs.Contents.{Contents, entry_in, state_of, birth_of};
-ghost use Rattle.cordz_core.specs.History.{History, Reserves, Frees, Tracks, Unlinks, Settles, Snaps, Unsnaps};
-ghost use Rattle.cordz_core.specs.Legal.{Replays, head_after, next_after};
+ghost use Rattle.cordz_core.specs.History.{History, Reserves, Frees, Tracks, Unlinks, Settles, Snaps, Unsnaps, Tracked, use_of};
+ghost use Rattle.cordz_core.specs.Legal.{Replays, IsDeletionOf, IsRisingFrom, head_after, next_after, settle_places};
 ghost use Rattle.cordz_core.specs.Links.{Moves, Begins, Ends, moved_to};
-ghost use Rattle.cordz_core.specs.Queue.{leading, without_walker};
+ghost use Rattle.cordz_core.specs.Queue.{has, leading, without_walker};
 
 use crate::answers::{RecordsFull, Settled};
 use crate::links::{clear, first_free, head_without, point_back, point_on};
@@ -168,6 +168,7 @@ impl Registry {
         ensures moves { Moves self.old self.new slot (moved_to result) }
         ensures stamps { self.new.stamps ≡ self.old.stamps }
         ensures history { (h : History) → Replays h self.old → Replays (Settles slot ∷ h) self.new }
+        ensures place { (h : History) → Replays h self.old → ((result ≡ Settled.Deleted) ↔ IsDeletionOf (Settles slot ∷ h) slot (length (Settles slot ∷ h))) }
     {
         self.clock.ticks += 1;
         let now = self.clock;
@@ -207,6 +208,8 @@ impl Registry {
         ensures ends { Ends self.old self.new walker result.items }
         ensures stamps { self.new.stamps ≡ self.old.stamps }
         ensures history { (h : History) → Replays h self.old → Replays (Unsnaps walker ∷ h) self.new }
+        ensures given { (h : History) → Replays h self.old → (s : ℕ) → ((has s result.items ≡ true) ↔ ((use_of h s ≡ Tracked) × IsDeletionOf (Unsnaps walker ∷ h) s (length (Unsnaps walker ∷ h)))) }
+        ensures order { (h : History) → Replays h self.old → IsRisingFrom 0 (settle_places h result.items) }
     {
         self.clock.ticks += 1;
         self.births[walker as usize] = None;

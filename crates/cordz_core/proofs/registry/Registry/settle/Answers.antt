@@ -9,6 +9,9 @@ use Rattle.std.proofs.lemmas.Bool.{eqb-true, eq-eqb}
 use Rattle.std.proofs.lemmas.List.{nil_from_length}
 use Rattle.cordz_core.specs.Legal.{Replays}
 use Rattle.cordz_core.proofs.Queues.{deleted_replays, queued_replays}
+use Rattle.std.proofs.Common.{get_or-set_same}
+use Rattle.cordz_core.specs.Contents.{blank}
+use Rattle.cordz_core.proofs.Deleting.{settle_deletes, settle_deletes_not}
 use Rattle.cordz_core.proofs.registry.Registry.settle.Goals as goal
 
 pub push-requires : goal.push-requires
@@ -23,3 +26,15 @@ returns-then-is_empty-clause-history c = λ h rep. deleted_replays h (contents_o
 
 pub returns-clause-history : goal.returns-clause-history
 returns-clause-history c = λ h rep. queued_replays h (contents_of c.self.inside) (subst (Replays h) (sym c.self.view_is) rep) c.self.invariant c.args.slot _ c.requires.slot (ap (λ z. state_of z c.args.slot) c.self.view_is ∙ c.requires.leaving) _ refl _ refl (λ e. (let f : false ≡ true = sym c.if-is_empty.false ∙ (c.is_empty.ensures ∙ eq-eqb _ 0 e) in cc)) (subst (λ (z : Contents). z.clock < 2 ^ 64 - 1) (sym c.self.view_is) c.requires.clock) refl refl refl refl refl refl refl c.push.ensures.items
+
+pub returns-then-is_empty-clause-place : goal.returns-then-is_empty-clause-place
+returns-then-is_empty-clause-place c = λ h rep. (
+  (λ e. settle_deletes h c.args.self.now _ c.args.slot rep (returns-then-is_empty-clause-history c h rep) c.requires.slot c.requires.leaving (ap (λ (z : Entry). z.state) (get_or-set_same c.self.inside.entries c.args.slot _ blank (let l = c.self.invariant.entries in let k = c.requires.slot in omega arith)))),
+  (λ d. refl),
+)
+
+pub returns-clause-place : goal.returns-clause-place
+returns-clause-place c = λ h rep. (
+  (λ e. absurd (cc)),
+  (λ d. absurd (settle_deletes_not h c.args.self.now _ c.args.slot rep (returns-clause-history c h rep) c.requires.slot c.requires.leaving (ap (λ (z : Entry). z.state) (get_or-set_same c.self.inside.entries c.args.slot _ blank (let l = c.self.invariant.entries in let k = c.requires.slot in omega arith))) d)),
+)

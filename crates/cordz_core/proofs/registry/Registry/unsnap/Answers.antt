@@ -12,6 +12,10 @@ use Rattle.std.proofs.Common.{◌-◌, ◌^◌, inl, inr}
 use Rattle.std.specs.Prelude.{IsSome}
 use Rattle.cordz_core.specs.Legal.{Replays}
 use Rattle.cordz_core.proofs.Queues.{ended_replays}
+use Rattle.cordz_core.specs.History.{History}
+use Rattle.cordz_core.specs.Queue.{has}
+use Rattle.cordz_core.specs.Legal.{queue_after, settle_places, IsRisingFrom}
+use Rattle.cordz_core.proofs.Deleting.{unsnap_gives, unsnap_gives_all, unsnap_in_order}
 use Rattle.cordz_core.proofs.registry.Registry.unsnap.Goals as goal
 
 -- the queue without the snapshot, as it was read
@@ -56,3 +60,16 @@ returns-clause-ends c = ended_ends (contents_of c.self.inside) c.self.invariant 
 
 pub returns-clause-history : goal.returns-clause-history
 returns-clause-history c = λ h rep. ended_replays h (contents_of c.self.inside) (subst (Replays h) (sym c.self.view_is) rep) c.self.invariant c.args.walker _ _ c.requires.walker (subst (λ (z : Contents). IsSome (birth_of z c.args.walker)) (sym c.self.view_is) c.requires.one) (subst (λ (z : Contents). z.clock < 2 ^ 64 - 1) (sym c.self.view_is) c.requires.clock) refl refl refl refl (given c) (entries c) refl refl (behind c)
+
+-- what is given, by the history
+from : (c : goal.After-clear) → (h : History) → Replays h c.args.self.now → c.leading_records-deleted.result.items ≡ leading (without_walker c.args.walker (queue_after h))
+from c h rep = given c ∙ ap (λ q. leading (without_walker c.args.walker q)) (ap (λ z. z.queue) c.self.view_is ∙ rep.queue)
+
+pub returns-clause-given : goal.returns-clause-given
+returns-clause-given c = λ h rep s. (
+  (λ e. unsnap_gives h _ c.args.walker (returns-clause-history c h rep).legal s (sym (ap (has s) (from c h rep)) ∙ e)),
+  (λ d. ap (has s) (from c h rep) ∙ unsnap_gives_all h _ c.args.walker (returns-clause-history c h rep).legal s d.0 d.1),
+)
+
+pub returns-clause-order : goal.returns-clause-order
+returns-clause-order c = λ h rep. subst (λ l. IsRisingFrom 0 (settle_places h l)) (sym (from c h rep)) (unsnap_in_order h _ c.args.walker (returns-clause-history c h rep).legal)
