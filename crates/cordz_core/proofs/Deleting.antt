@@ -1,21 +1,18 @@
 -- A slot becomes one to be cleared exactly at its record's deletion place.
-use Rattle.std.proofs.Common.{◌≡◌, ◌≢◌, ◌↔◌, ℕ, zero, suc, ◌+◌, ◌-◌, ◌<◌, ◌≤◌, Bool, true, false, cond, eqb, List, [], ◌∷◌, ◌++◌, length, Option, Some, None, ◌⊎◌, inl, inr, refl, sym, ap, ◌∙◌, subst, arith}
+use Rattle.std.proofs.Common.{◌≡◌, ◌≢◌, ◌↔◌, ℕ, ◌+◌, ◌<◌, ◌≤◌, Bool, true, false, cond, List, [], ◌∷◌, ◌++◌, length, Option, Some, None, ◌⊎◌, inl, inr, refl, sym, ap, ◌∙◌, subst, arith}
 use Rattle.std.specs.Prelude.{◌==◌, ◌&&◌, ◌||◌, not, nat_lt, nat_le}
 use Rattle.std.proofs.lemmas.Bool.Decides.{nat_tests}
-use Rattle.std.proofs.lemmas.Bool.{lt-ltb, le-ltb, le-leb, lt-leb, eq-eqb, ne_eqb, eqb-true, ltb-true, leb-true, cases_Bool, cases_eq}
-use Rattle.cordz_core.specs.declared.slot.Slot.{Slot}
-use Rattle.cordz_core.specs.declared.slot.Clock.{Clock}
-use Rattle.cordz_core.specs.declared.slot.SlotState.{SlotState}
+use Rattle.std.proofs.lemmas.Bool.{lt-ltb, le-ltb, le-leb, lt-leb, eq-eqb, ne_eqb, ltb-true, cases_Bool, cases_eq}
 use Rattle.cordz_core.specs.declared.slot.SlotState.TheVariants.{Free, Reserved, Linked, Leaving, Queued, Clearing}
 use Rattle.cordz_core.specs.declared.queue.Waiting.{Waiting}
 use Rattle.cordz_core.specs.declared.queue.Waiting.TheVariants.{Snapshot, Record}
 use Rattle.cordz_core.specs.Queue.{has, leading, without_walker}
-use Rattle.cordz_core.specs.Contents.{Contents, entry_in, state_of, IsSound}
+use Rattle.cordz_core.specs.Contents.{Contents, state_of}
 use Rattle.cordz_core.specs.History.{Action, History, Reserves, Frees, Tracks, Unlinks, Settles, Snaps, Unsnaps, Use, Nobody, Holder, Tracked, use_of}
-use Rattle.cordz_core.specs.Times.{RecordTimes, SnapshotTimes, Course, Stays, Left, Done, stays, is_leaving, settled_course, records, snapshots, unlinked, settled, ended, unended, unended_at, has_older, deleted_at, IsDeletionPlace, record_in}
-use Rattle.cordz_core.specs.Legal.{state_by, state_for, state_after, IsAllowed, IsLegal, course_of, IsDeletionOf, queue_after, Replays, Fits, settled_at, settle_places, IsRisingFrom}
+use Rattle.cordz_core.specs.Times.{RecordTimes, SnapshotTimes, Course, Stays, Left, Done, is_leaving, settled_course, records, snapshots, unlinked, settled, ended, unended, unended_at, has_older, deleted_at, record_in}
+use Rattle.cordz_core.specs.Legal.{state_by, state_for, state_after, IsAllowed, IsLegal, course_of, IsDeletionOf, queue_after, Replays, settled_at, settle_places, IsRisingFrom}
 use Rattle.cordz_core.proofs.Records.{CourseIn, unlinked_other, unlinked_same, settled_other, settled_same}
-use Rattle.cordz_core.proofs.States.{state_now, known, after_is_known, OptionIn, last_in, waits, linked_is_linked, tracked_if_linked, tracked_if_leaving}
+use Rattle.cordz_core.proofs.States.{state_now, known, after_is_known, OptionIn, last_in, linked_is_linked, tracked_if_linked, tracked_if_leaving}
 use Rattle.cordz_core.proofs.Waitings.{RisingTo, has_wait, wait_without, rising_without}
 use Rattle.cordz_core.proofs.Deletions.{QueueFacts, queue_facts, done_by, done_of, done_in, state_by_done, snapped_known, ended_gone, ended_kept, done_if_leading}
 use Rattle.cordz_core.specs.Walks.{BecomesClearing}
@@ -72,7 +69,7 @@ clearing_course xs Stays n e = absurd (cc)
 clearing_course xs (Left u) n e = absurd (cc)
 clearing_course xs (Done u p) n e = by_deleted (deleted_at xs (Done u p) n) e
 
-clearing_deleted : (u : Use) (o : Option RecordTimes) (xs : List SnapshotTimes) (n : ℕ) → state_for u o xs n ≡ Clearing → (u ≡ Tracked) × (deleted_at xs (course_of o) n ≡ true)
+pub clearing_deleted : (u : Use) (o : Option RecordTimes) (xs : List SnapshotTimes) (n : ℕ) → state_for u o xs n ≡ Clearing → (u ≡ Tracked) × (deleted_at xs (course_of o) n ≡ true)
 clearing_deleted Nobody o xs n e = absurd (cc)
 clearing_deleted Holder o xs n e = absurd (cc)
 clearing_deleted Tracked None xs n e = absurd (cc)

@@ -1,21 +1,18 @@
 -- A record waits exactly while a snapshot older than its settling lives, over every legal history.
-use Rattle.std.proofs.Common.{◌≡◌, ◌≢◌, ℕ, zero, suc, ◌+◌, ◌<◌, ◌≤◌, Bool, true, false, cond, eqb, List, [], ◌∷◌, ◌++◌, length, Option, Some, None, ◌⊎◌, inl, inr, refl, sym, ap, ◌∙◌, subst, arith}
-use Rattle.std.specs.Prelude.{◌==◌, ◌&&◌, ◌||◌, nat_lt, nat_le}
-use Rattle.std.proofs.lemmas.Bool.{lt-ltb, le-ltb, eq-eqb, ne_eqb, eqb-true, eqb-false, cases_Bool, cases_eq}
-use Rattle.cordz_core.specs.declared.slot.Slot.{Slot}
-use Rattle.cordz_core.specs.declared.slot.Walker.{Walker}
-use Rattle.cordz_core.specs.declared.slot.Clock.{Clock}
+use Rattle.std.proofs.Common.{◌≡◌, ◌≢◌, ℕ, suc, ◌+◌, ◌≤◌, Bool, true, false, cond, List, [], ◌∷◌, ◌++◌, length, Option, Some, None, ◌⊎◌, inl, inr, refl, sym, ap, ◌∙◌, subst, arith}
+use Rattle.std.specs.Prelude.{◌==◌, ◌&&◌, ◌||◌, nat_lt}
+use Rattle.std.proofs.lemmas.Bool.{lt-ltb, le-ltb, eq-eqb, ne_eqb, eqb-true, cases_Bool, cases_eq}
 use Rattle.cordz_core.specs.declared.slot.SlotState.{SlotState}
 use Rattle.cordz_core.specs.declared.slot.SlotState.TheVariants.{Free, Reserved, Linked, Leaving, Queued, Clearing}
 use Rattle.cordz_core.specs.declared.queue.Waiting.{Waiting}
 use Rattle.cordz_core.specs.declared.queue.Waiting.TheVariants.{Snapshot, Record}
 use Rattle.cordz_core.specs.Queue.{has, leading, kept_behind, without_walker}
 use Rattle.cordz_core.specs.History.{Action, Reserves, Frees, Tracks, Unlinks, Settles, Snaps, Unsnaps, History, Use, Nobody, Holder, Tracked, use_of}
-use Rattle.cordz_core.specs.Times.{RecordTimes, SnapshotTimes, Course, Stays, Left, Done, stays, is_leaving, settled_course, unlinked, settled, records, snapshots, ended, unended, record_in}
-use Rattle.cordz_core.specs.Legal.{state_after, IsAllowed, IsLegal, queued, queue_after}
-use Rattle.cordz_core.proofs.Records.{CourseIn, left_now, settled_now, unlinked_other, unlinked_same, settled_other, settled_same}
-use Rattle.cordz_core.proofs.States.{SnapshotsIn, snapshots_in, waits, state_by_now, state_now, known, after_is_known, linked_is_linked, tracked_if_linked, tracked_if_leaving, last_in, OptionIn}
-use Rattle.cordz_core.proofs.Waitings.{lives, shots, pair_dropped, lives_ended, lives_push, shots_push_snapshot, shots_push_record, shots_without, shots_behind, any_before, waits_lives, place_of, RisingTo, rising_later, rising_push, rising_without, rising_behind, leading_behind, leading_push, has_wait, wait_push_snapshot, wait_push_record, wait_without, wait_behind, none_before, wait_above, wait_has_older, front_no_older, front_is_leading, LeadsFrom, leads_from}
+use Rattle.cordz_core.specs.Times.{RecordTimes, SnapshotTimes, Course, Stays, Left, Done, is_leaving, settled_course, records, snapshots, ended, unended, record_in}
+use Rattle.cordz_core.specs.Legal.{state_after, IsLegal, queued, queue_after}
+use Rattle.cordz_core.proofs.Records.{CourseIn, unlinked_other, unlinked_same, settled_other, settled_same}
+use Rattle.cordz_core.proofs.States.{waits, state_by_now, state_now, known, after_is_known, linked_is_linked, tracked_if_linked, tracked_if_leaving, last_in, OptionIn}
+use Rattle.cordz_core.proofs.Waitings.{lives, shots, pair_dropped, lives_ended, lives_push, shots_push_snapshot, shots_push_record, shots_without, shots_behind, any_before, waits_lives, RisingTo, rising_later, rising_push, rising_without, rising_behind, leading_behind, leading_push, has_wait, wait_push_snapshot, wait_push_record, wait_without, wait_behind, wait_has_older, front_no_older, front_is_leading, leads_from}
 
 -- the place of the settling of a slot's record
 abbrev pub done_by : Course → Option ℕ
@@ -85,7 +82,7 @@ option_done_in n Tracked (Some r) p k e = course_done_in r.track n r.course p k 
 pub done_before : (h : History) (s p : ℕ) → done_in h s ≡ Some p → p ≤ length h
 done_before h s p e = option_done_in (length h) (use_of h s) (record_in (records h) s) p (last_in h s) e
 
-waits_push : (p w b : ℕ) (xs : List SnapshotTimes) → p ≤ b → waits (xs ++ (record { walker = w; birth = b; end = None }) ∷ []) p ≡ waits xs p
+pub waits_push : (p w b : ℕ) (xs : List SnapshotTimes) → p ≤ b → waits (xs ++ (record { walker = w; birth = b; end = None }) ∷ []) p ≡ waits xs p
 waits_push p w b [] less = ap (λ c. (c && true) || false) (le-ltb b p less)
 waits_push p w b (x ∷ xs) less = ap (λ c. (nat_lt x.birth p && unended x.end) || c) (waits_push p w b xs less)
 

@@ -7,6 +7,7 @@ pub mod Queues
 pub mod Records
 pub mod Sound
 pub mod States
+pub mod Staying
 pub mod Steps
 pub mod Unlinks
 pub mod Waitings

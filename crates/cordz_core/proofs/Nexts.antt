@@ -1,13 +1,13 @@
 -- What a walk finds behind a slot's record after a history, action by action.
-use Rattle.std.proofs.Common.{◌≡◌, ◌≢◌, ℕ, zero, suc, ◌+◌, ◌<◌, ◌≤◌, Bool, true, false, cond, eqb, List, [], ◌∷◌, ◌++◌, length, min, Option, Some, None, ◌⊎◌, inl, inr, refl, sym, ap, ◌∙◌, subst, arith}
-use Rattle.std.specs.Prelude.{◌==◌, ◌&&◌, ◌||◌, nat_lt, nat_le, option_map, option_and_then}
+use Rattle.std.proofs.Common.{◌≡◌, ◌≢◌, ℕ, ◌+◌, ◌<◌, ◌≤◌, true, false, cond, List, ◌∷◌, length, min, Option, Some, None, refl, sym, ap, ◌∙◌, subst, arith}
+use Rattle.std.specs.Prelude.{◌&&◌, nat_lt, option_and_then}
 use Rattle.std.proofs.lemmas.Bool.Decides.{nat_tests}
-use Rattle.std.proofs.lemmas.Bool.{lt-ltb, le-ltb, le-leb, eq-eqb, ne_eqb, eqb-true}
+use Rattle.std.proofs.lemmas.Bool.{eq-eqb, ne_eqb}
 use Rattle.cordz_core.proofs.Numbers.{dropped}
-use Rattle.cordz_core.specs.History.{Action, Reserves, Frees, Tracks, Unlinks, Settles, Snaps, Unsnaps, History, Use, Nobody, Holder, Tracked, use_of}
-use Rattle.cordz_core.specs.Times.{RecordTimes, Course, Stays, Left, Done, stays, is_leaving, settled_course, unlinked, settled, records, newest, not_left, linked_at, seen_at, head_at, next_at, record_in}
+use Rattle.cordz_core.specs.History.{Tracks, Unlinks, Settles, History}
+use Rattle.cordz_core.specs.Times.{RecordTimes, Course, Stays, Left, Done, stays, is_leaving, settled_course, unlinked, settled, records, newest, linked_at, seen_at, next_at, record_in}
 use Rattle.cordz_core.specs.Legal.{linked_slots, first_of, behind, next_after, head_after}
-use Rattle.cordz_core.proofs.Records.{CourseIn, AllIn, Older, records_in, records_older, unlinked_in, unlinked_older, settled_older, all_later, left_now, settled_now, unlinked_other, unlinked_same, settled_other, settled_same, linked_unlinked, linked_settled, linked_below, slot_of, head_now, below_now, all_below, track_below, below_behind, below_unlinked, found_unlinked, found_settled}
+use Rattle.cordz_core.proofs.Records.{CourseIn, AllIn, Older, records_in, records_older, unlinked_in, unlinked_older, unlinked_other, unlinked_same, settled_other, settled_same, linked_unlinked, linked_settled, linked_below, slot_of, head_now, below_now, all_below, track_below, below_behind, below_unlinked, found_unlinked, found_settled}
 use Rattle.cordz_core.proofs.States.{OptionIn, last_in}
 
 pub head_is : (h : History) → head_after h ≡ first_of (linked_slots (records h))

@@ -1,30 +1,29 @@
 -- A registry that a history made is, after a settle, a snap or an unsnap, what the longer history made.
-use Rattle.std.proofs.Common.{◌≡◌, ◌≢◌, ℕ, zero, suc, ◌+◌, ◌-◌, ◌^◌, ◌<◌, ◌≤◌, Bool, true, false, cond, eqb, List, [], ◌∷◌, ◌++◌, length, get_or, replicate, set, Option, Some, None, ◌⊎◌, inl, inr, refl, sym, ap, ◌∙◌, subst, arith, get_or-set_same, get_or-set_other}
-use Rattle.std.specs.Prelude.{◌==◌, ◌&&◌, ◌||◌, nat_lt, option_map, slice_set, IsSome}
+use Rattle.std.proofs.Common.{◌≡◌, ◌≢◌, ℕ, zero, suc, ◌+◌, ◌-◌, ◌^◌, ◌<◌, ◌≤◌, Bool, true, false, cond, List, [], ◌∷◌, ◌++◌, length, get_or, replicate, Option, Some, None, ◌⊎◌, inl, inr, refl, sym, ap, ◌∙◌, subst, arith, get_or-set_same, get_or-set_other}
+use Rattle.std.specs.Prelude.{◌==◌, ◌||◌, option_map, slice_set, IsSome}
 use Rattle.std.proofs.lemmas.Bool.Decides.{nat_tests}
 use Rattle.std.proofs.lemmas.Bool.{eq-eqb, ne_eqb, eqb-true, cases_eq, cases_Bool}
 use Rattle.cordz_core.specs.declared.slot.Slot.{Slot}
-use Rattle.cordz_core.specs.declared.slot.Walker.{Walker}
 use Rattle.cordz_core.specs.declared.slot.Clock.{Clock}
 use Rattle.cordz_core.specs.declared.slot.Entry.{Entry}
 use Rattle.cordz_core.specs.declared.slot.SlotState.{SlotState}
-use Rattle.cordz_core.specs.declared.slot.SlotState.TheVariants.{Free, Reserved, Linked, Leaving, Queued, Clearing}
+use Rattle.cordz_core.specs.declared.slot.SlotState.TheVariants.{Linked, Leaving, Queued, Clearing}
 use Rattle.cordz_core.specs.declared.queue.Waiting.{Waiting}
 use Rattle.cordz_core.specs.declared.queue.Waiting.TheVariants.{Snapshot, Record}
 use Rattle.cordz_core.specs.Queue.{has, Apart, codes, leading, kept_behind, without_walker}
 use Rattle.cordz_core.specs.Contents.{Contents, blank, entry_in, birth_in, state_of, birth_of, IsSound}
 use Rattle.cordz_core.specs.Links.{with_state, cleared}
 use Rattle.cordz_core.proofs.Numbers.{AllBelow}
-use Rattle.cordz_core.specs.History.{Action, Settles, Snaps, Unsnaps, History, Use, Tracked, use_of, stamp_in}
-use Rattle.cordz_core.specs.Times.{RecordTimes, SnapshotTimes, Course, Stays, Left, Done, stays, is_leaving, records, snapshots, settled, ended, unended, record_in, living}
-use Rattle.cordz_core.specs.Legal.{state_after, linked_slots, first_of, StandsBehind, newer_of, number_of, Fits, Replays, IsLegal, queue_after, queued}
-use Rattle.cordz_core.proofs.Records.{settled_now, settled_other, settled_same, linked_settled}
+use Rattle.cordz_core.specs.History.{Settles, Snaps, Unsnaps, History, use_of}
+use Rattle.cordz_core.specs.Times.{RecordTimes, SnapshotTimes, stays, is_leaving, records, snapshots, record_in, living}
+use Rattle.cordz_core.specs.Legal.{state_after, linked_slots, first_of, StandsBehind, newer_of, number_of, Fits, Replays, queue_after, queued}
+use Rattle.cordz_core.proofs.Records.{settled_other, settled_same, linked_settled}
 use Rattle.cordz_core.proofs.Sound.{cleared_keeps, state_cleared, state_cleared_other, leading_below, fit_without, all_blank}
 use Rattle.cordz_core.proofs.States.{state_now, known, after_is_known, tracked_if_leaving, waits}
 use Rattle.cordz_core.proofs.Nexts.{next_of, next_known, next_is, head_is, next_settled_gone, next_settled_linked, next_settled_same}
 use Rattle.cordz_core.proofs.Steps.{fits_kept, allowed_next, stands, entry_at, entry_other}
 use Rattle.cordz_core.proofs.Waitings.{lives, shots, pair_dropped, lives_ended, lives_push}
-use Rattle.cordz_core.proofs.Deletions.{QueueFacts, queue_facts, done_in, settled_done_same, settled_deleted, settled_waits, state_by_done, snapped_known, ended_gone, ended_kept}
+use Rattle.cordz_core.proofs.Deletions.{QueueFacts, queue_facts, settled_done_same, settled_deleted, settled_waits, state_by_done, snapped_known, ended_gone, ended_kept}
 
 -- a settle changes nothing for the walks
 next_settled_other : (h : History) (r s : ℕ) (o : Option RecordTimes) → record_in (records h) s ≡ o → s ≢ r → next_known (Settles r ∷ h) s ≡ next_known h s

@@ -1,12 +1,11 @@
 -- The records of a history: the last of a slot, the linked ones, and what a walk finds among them.
-use Rattle.std.proofs.Common.{◌≡◌, ◌≢◌, ℕ, ◌+◌, ◌<◌, ◌≤◌, Bool, true, false, cond, eqb, List, [], ◌∷◌, length, min, Option, Some, None, refl, sym, ap, ◌∙◌, subst, arith}
-use Rattle.std.specs.Prelude.{◌==◌, ◌&&◌, ◌||◌, nat_lt, nat_le, option_map, option_and_then}
+use Rattle.std.proofs.Common.{◌≡◌, ◌≢◌, ℕ, ◌+◌, ◌<◌, ◌≤◌, Bool, true, false, cond, List, [], ◌∷◌, length, Option, Some, None, refl, sym, subst, arith}
+use Rattle.std.specs.Prelude.{◌==◌, ◌&&◌, nat_lt, option_map}
 use Rattle.std.proofs.lemmas.Bool.Decides.{nat_tests}
-use Rattle.std.proofs.lemmas.Bool.{lt-ltb, le-ltb, le-leb, eq-eqb, ne_eqb}
-use Rattle.cordz_core.specs.Queue.{has, Apart}
+use Rattle.std.proofs.lemmas.Bool.{le-ltb}
 use Rattle.cordz_core.proofs.Numbers.{dropped}
-use Rattle.cordz_core.specs.History.{Action, Reserves, Frees, Tracks, Unlinks, Settles, Snaps, Unsnaps, History}
-use Rattle.cordz_core.specs.Times.{RecordTimes, Course, Stays, Left, Done, stays, is_leaving, settled_course, unlinked, settled, records, newest, not_left, linked_at, seen_at, head_at, next_at, record_in}
+use Rattle.cordz_core.specs.History.{Reserves, Frees, Tracks, Unlinks, Settles, Snaps, Unsnaps, History}
+use Rattle.cordz_core.specs.Times.{RecordTimes, Course, Stays, Left, Done, stays, is_leaving, settled_course, unlinked, settled, records, newest, not_left, linked_at, record_in}
 use Rattle.cordz_core.specs.Legal.{linked_slots, first_of, behind}
 
 -- a course's places lie between the track and now, in order

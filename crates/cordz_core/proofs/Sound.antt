@@ -1,6 +1,6 @@
 -- The rules of a registry survive each action.
-use Rattle.std.proofs.Common.{◌≡◌, ◌≢◌, ℕ, zero, suc, ◌+◌, ◌<◌, ◌≤◌, Bool, true, false, cond, eqb, List, [], ◌∷◌, ◌++◌, length, set, get_or, replicate, take, add-one, Option, Some, None, ◌⊎◌, inl, inr, refl, sym, ap, ◌∙◌, subst, arith, length-append, get_or-set_same, get_or-set_other}
-use Rattle.std.specs.Prelude.{◌==◌, ◌||◌, drop, slice_set, slice_index_or, map, All, IsSome, remove}
+use Rattle.std.proofs.Common.{◌≡◌, ◌≢◌, ℕ, zero, suc, ◌+◌, ◌<◌, ◌≤◌, Bool, true, false, cond, List, [], ◌∷◌, ◌++◌, length, get_or, replicate, take, add-one, Option, Some, None, ◌⊎◌, inl, inr, refl, sym, ap, ◌∙◌, subst, arith, length-append, get_or-set_same, get_or-set_other}
+use Rattle.std.specs.Prelude.{◌==◌, ◌||◌, drop, slice_set, All, IsSome, remove}
 use Rattle.std.proofs.lemmas.Bool.Decides.{nat_tests}
 use Rattle.std.proofs.lemmas.Bool.{cases_eq, cases_lt, eq-eqb, ne_eqb}
 use Rattle.std.proofs.lemmas.List.{length-set, set_past, drop_more, take_more, append_assoc}
@@ -10,13 +10,13 @@ use Rattle.cordz_core.specs.declared.slot.Walker.{Walker}
 use Rattle.cordz_core.specs.declared.slot.Clock.{Clock}
 use Rattle.cordz_core.specs.declared.slot.Entry.{Entry}
 use Rattle.cordz_core.specs.declared.slot.SlotState.{SlotState}
-use Rattle.cordz_core.specs.declared.slot.SlotState.TheVariants.{Free, Reserved, Linked, Leaving, Queued, Clearing}
+use Rattle.cordz_core.specs.declared.slot.SlotState.TheVariants.{Queued, Clearing}
 use Rattle.cordz_core.specs.declared.queue.Waiting.{Waiting}
 use Rattle.cordz_core.specs.declared.queue.Waiting.TheVariants.{Snapshot, Record}
 use Rattle.cordz_core.specs.Queue.{has, Apart, codes, code_of, leading, kept_behind, without_walker, AllFit}
 use Rattle.cordz_core.specs.Contents.{Contents, blank, entry_in, birth_in, state_of, birth_of, AllMarked, IsSound}
-use Rattle.cordz_core.specs.Links.{pointed_back, pointed_on, with_next, with_state, head_left, cleared, Moves, Ends}
-use Rattle.cordz_core.proofs.Numbers.{AllBelow, room, apart_push, dropped, dropped_apart, few, has_dropped, has_push_true, has_push_same, has_other}
+use Rattle.cordz_core.specs.Links.{pointed_back, pointed_on, with_next, with_state, cleared, Moves, Ends}
+use Rattle.cordz_core.proofs.Numbers.{AllBelow, room, apart_push, dropped, dropped_apart, few, has_push_true, has_push_same, has_other}
 
 or_false : (a b : Bool) → a ≡ false → b ≡ false → (a || b) ≡ false
 or_false true b e f = e

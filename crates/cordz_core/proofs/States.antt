@@ -1,16 +1,16 @@
 -- Where slots stand after a history: by the times as they are now, and action by action.
-use Rattle.std.proofs.Common.{◌≡◌, ◌≢◌, ℕ, zero, suc, ◌+◌, ◌<◌, ◌≤◌, Bool, true, false, cond, eqb, List, [], ◌∷◌, ◌++◌, length, Option, Some, None, ◌⊎◌, inl, inr, refl, sym, ap, ◌∙◌, subst, arith}
-use Rattle.std.specs.Prelude.{◌==◌, ◌&&◌, ◌||◌, not, nat_lt, nat_le, option_map}
+use Rattle.std.proofs.Common.{◌≡◌, ◌≢◌, ℕ, suc, ◌+◌, ◌<◌, ◌≤◌, Bool, true, false, cond, List, [], ◌∷◌, ◌++◌, length, Option, Some, None, ◌⊎◌, inl, inr, refl, sym, ap, ◌∙◌, subst, arith}
+use Rattle.std.specs.Prelude.{◌==◌, ◌&&◌, ◌||◌, not, nat_lt, nat_le}
 use Rattle.std.proofs.lemmas.Bool.Decides.{nat_tests}
-use Rattle.std.proofs.lemmas.Bool.{lt-ltb, le-ltb, le-leb, eq-eqb, ne_eqb, eqb-true}
+use Rattle.std.proofs.lemmas.Bool.{le-ltb, le-leb, eqb-true}
 use Rattle.cordz_core.specs.declared.slot.SlotState.{SlotState}
 use Rattle.cordz_core.specs.declared.slot.SlotState.TheVariants.{Free, Reserved, Linked, Leaving, Queued, Clearing}
 use Rattle.cordz_core.specs.Queue.{has, Apart}
 use Rattle.cordz_core.proofs.Numbers.{dropped, dropped_apart, has_other, AllBelow}
 use Rattle.cordz_core.proofs.Sound.{dropped_gone}
-use Rattle.cordz_core.specs.History.{Action, Reserves, Frees, Tracks, Unlinks, Settles, Snaps, Unsnaps, History, Use, Nobody, Holder, Tracked, use_of}
-use Rattle.cordz_core.specs.Times.{RecordTimes, SnapshotTimes, Course, Stays, Left, Done, stays, is_leaving, settled_course, unlinked, settled, records, snapshots, ended, unended, unended_at, has_older, deleted_at, record_in}
-use Rattle.cordz_core.specs.Legal.{linked_slots, state_by, state_for, state_after, IsAllowed, IsLegal}
+use Rattle.cordz_core.specs.History.{Reserves, Frees, Tracks, Unlinks, Settles, Snaps, Unsnaps, History, Use, Nobody, Holder, Tracked, use_of}
+use Rattle.cordz_core.specs.Times.{RecordTimes, SnapshotTimes, Course, Stays, Left, Done, stays, is_leaving, settled_course, unlinked, settled, records, snapshots, ended, unended, unended_at, has_older, record_in}
+use Rattle.cordz_core.specs.Legal.{linked_slots, state_by, state_for, state_after, IsLegal}
 use Rattle.cordz_core.proofs.Records.{CourseIn, AllIn, records_in, left_now, settled_now, unlinked_other, unlinked_same, settled_other, settled_same, linked_unlinked, linked_settled}
 
 -- births and ends are no later than now

@@ -1,24 +1,23 @@
 -- A registry that a history made is, after one more action, what the longer history made: reserve, free, track and unlink.
-use Rattle.std.proofs.Common.{◌≡◌, ◌≢◌, ℕ, zero, suc, ◌+◌, ◌-◌, ◌^◌, ◌<◌, ◌≤◌, Bool, true, false, cond, eqb, List, [], ◌∷◌, ◌++◌, length, get_or, set, Option, Some, None, ◌⊎◌, inl, inr, refl, sym, ap, ◌∙◌, subst, arith, get_or-set_same, get_or-set_other, ⊎_elim}
-use Rattle.std.specs.Prelude.{◌==◌, ◌&&◌, ◌||◌, nat_lt, nat_le, option_map, slice_set, IsSome}
-use Rattle.std.proofs.lemmas.Bool.{eq-eqb, ne_eqb, eqb-true, cases_eq, cases_lt}
+use Rattle.std.proofs.Common.{◌≡◌, ◌≢◌, ℕ, ◌+◌, ◌-◌, ◌^◌, ◌<◌, ◌≤◌, Bool, true, false, cond, List, ◌∷◌, length, get_or, Option, Some, None, ◌⊎◌, inl, inr, refl, sym, ap, ◌∙◌, subst, arith, get_or-set_same, get_or-set_other, ⊎_elim}
+use Rattle.std.specs.Prelude.{◌==◌, ◌||◌, option_map, slice_set}
+use Rattle.std.proofs.lemmas.Bool.{eq-eqb, ne_eqb, cases_eq, cases_lt}
 use Rattle.std.proofs.lemmas.List.{length-set, get_or_past}
 use Rattle.cordz_core.specs.declared.slot.Slot.{Slot}
 use Rattle.cordz_core.specs.declared.slot.Clock.{Clock}
 use Rattle.cordz_core.specs.declared.slot.Entry.{Entry}
 use Rattle.cordz_core.specs.declared.slot.SlotState.{SlotState}
-use Rattle.cordz_core.specs.declared.slot.SlotState.TheVariants.{Free, Reserved, Linked, Leaving, Queued, Clearing}
+use Rattle.cordz_core.specs.declared.slot.SlotState.TheVariants.{Free, Reserved, Linked, Clearing}
 use Rattle.cordz_core.specs.Queue.{has, Apart}
-use Rattle.cordz_core.specs.Contents.{Contents, blank, entry_in, birth_in, state_of, birth_of, IsSound}
-use Rattle.cordz_core.specs.Links.{pointed_back, pointed_on, with_next, with_state, head_left}
-use Rattle.cordz_core.proofs.Numbers.{dropped, AllBelow, has_other}
-use Rattle.cordz_core.specs.History.{Action, Reserves, Frees, Tracks, Unlinks, Settles, Snaps, Unsnaps, History, Use, Nobody, Holder, Tracked, use_of, stamps_given, stamp_in}
-use Rattle.cordz_core.specs.Times.{RecordTimes, SnapshotTimes, Course, Stays, Left, Done, stays, records, snapshots, unlinked, record_in, living}
-use Rattle.cordz_core.specs.Legal.{state_after, linked_slots, first_of, behind, StandsBehind, newer_of, number_of, Fits, Replays, IsAllowed, IsLegal, next_after, head_after, queue_after}
-use Rattle.cordz_core.proofs.Lists.{first_dropped_head, first_dropped_other, behind_none, first_has_none, one_before, not_behind_itself, behind_dropped_before, behind_dropped_other, has_next, has_first}
-use Rattle.cordz_core.proofs.Records.{left_now, unlinked_other, unlinked_same, linked_unlinked}
-use Rattle.cordz_core.proofs.States.{state_now, known, after_is_known, is_linked, linked_is_linked, tracked_if_linked, other_is_unlinked, LinkedFacts, linked_facts}
-use Rattle.cordz_core.proofs.Nexts.{next_of, next_known, next_is, head_is, next_linked, next_tracked_other, next_tracked_same, next_unlinked_gone, next_unlinked_linked, next_unlinked_same}
+use Rattle.cordz_core.specs.Contents.{Contents, blank, entry_in, birth_in, state_of, IsSound}
+use Rattle.cordz_core.specs.Links.{pointed_back, with_state}
+use Rattle.cordz_core.proofs.Numbers.{dropped, has_other}
+use Rattle.cordz_core.specs.History.{Action, Reserves, Frees, Tracks, History, Use, Nobody, Holder, Tracked, use_of, stamps_given, stamp_in}
+use Rattle.cordz_core.specs.Times.{RecordTimes, SnapshotTimes, Stays, records, snapshots, record_in, living}
+use Rattle.cordz_core.specs.Legal.{state_after, linked_slots, first_of, behind, StandsBehind, newer_of, number_of, Fits, Replays, IsAllowed, IsLegal, queue_after}
+use Rattle.cordz_core.proofs.Lists.{first_dropped_head, first_dropped_other, not_behind_itself, behind_dropped_before, behind_dropped_other}
+use Rattle.cordz_core.proofs.States.{state_now, known, after_is_known, other_is_unlinked, LinkedFacts, linked_facts}
+use Rattle.cordz_core.proofs.Nexts.{next_of, next_known, next_is, head_is, next_tracked_other, next_tracked_same}
 
 -- an entry that keeps what the longer history says of its slot
 pub fits_kept : (h k : History) (s : ℕ) (e f : Entry) → Fits h s e → f.state ≡ e.state → f.stamp ≡ e.stamp → f.linked ≡ e.linked → known k s ≡ known h s → stamp_in k s ≡ stamp_in h s → use_of k s ≡ use_of h s

@@ -1,23 +1,21 @@
 -- A registry that a history made is, after an unlink, what the longer history made.
-use Rattle.std.proofs.Common.{◌≡◌, ◌≢◌, ℕ, zero, suc, ◌+◌, ◌-◌, ◌^◌, ◌<◌, ◌≤◌, Bool, true, false, cond, eqb, List, [], ◌∷◌, ◌++◌, length, get_or, set, Option, Some, None, ◌⊎◌, inl, inr, refl, sym, ap, ◌∙◌, subst, arith, get_or-set_same, get_or-set_other, ⊎_elim}
+use Rattle.std.proofs.Common.{◌≡◌, ◌≢◌, ℕ, ◌+◌, ◌-◌, ◌^◌, ◌<◌, Bool, true, false, List, [], ◌∷◌, length, get_or, Option, Some, None, ◌⊎◌, inl, inr, refl, sym, ap, ◌∙◌, subst, arith, get_or-set_same, get_or-set_other}
 use Rattle.std.specs.Prelude.{◌==◌, ◌||◌, option_map, slice_set}
-use Rattle.std.proofs.lemmas.Bool.{eq-eqb, ne_eqb, eqb-true, cases_eq, cases_lt, cases_Bool}
-use Rattle.std.proofs.lemmas.List.{length-set, get_or_past}
+use Rattle.std.proofs.lemmas.Bool.{eqb-true, cases_eq, cases_Bool}
+use Rattle.std.proofs.lemmas.List.{length-set}
 use Rattle.cordz_core.specs.declared.slot.Slot.{Slot}
 use Rattle.cordz_core.specs.declared.slot.Clock.{Clock}
 use Rattle.cordz_core.specs.declared.slot.Entry.{Entry}
-use Rattle.cordz_core.specs.declared.slot.SlotState.{SlotState}
-use Rattle.cordz_core.specs.declared.slot.SlotState.TheVariants.{Free, Reserved, Linked, Leaving, Queued, Clearing}
-use Rattle.cordz_core.specs.Queue.{has, Apart}
-use Rattle.cordz_core.specs.Contents.{Contents, blank, entry_in, birth_in, state_of, birth_of, IsSound}
+use Rattle.cordz_core.specs.declared.slot.SlotState.TheVariants.{Linked, Leaving}
+use Rattle.cordz_core.specs.Queue.{has}
+use Rattle.cordz_core.specs.Contents.{Contents, blank, entry_in, birth_in, state_of, IsSound}
 use Rattle.cordz_core.specs.Links.{pointed_back, pointed_on, with_next, with_state, head_left}
 use Rattle.cordz_core.proofs.Numbers.{dropped, AllBelow}
-use Rattle.cordz_core.specs.History.{Unlinks, History, Use, Tracked, use_of}
-use Rattle.cordz_core.specs.Times.{RecordTimes, Course, Stays, Left, Done, stays, records, snapshots, unlinked, record_in}
-use Rattle.cordz_core.specs.Legal.{state_after, linked_slots, first_of, behind, StandsBehind, newer_of, number_of, Fits, Replays, head_after}
+use Rattle.cordz_core.specs.History.{Unlinks, History, Tracked, use_of}
+use Rattle.cordz_core.specs.Times.{RecordTimes, records, snapshots, record_in}
+use Rattle.cordz_core.specs.Legal.{state_after, linked_slots, first_of, behind, StandsBehind, newer_of, number_of, Fits, Replays}
 use Rattle.cordz_core.proofs.Lists.{first_dropped_head, first_dropped_other, first_has_none, one_before, not_behind_itself, behind_dropped_before, behind_dropped_other}
-use Rattle.cordz_core.proofs.Records.{left_now, unlinked_other, unlinked_same, linked_unlinked}
-use Rattle.cordz_core.proofs.Sound.{length-pointed_on}
+use Rattle.cordz_core.proofs.Records.{unlinked_other, unlinked_same, linked_unlinked}
 use Rattle.cordz_core.proofs.States.{state_now, known, after_is_known, is_linked, linked_is_linked, tracked_if_linked, LinkedFacts, linked_facts}
 use Rattle.cordz_core.proofs.Nexts.{next_of, next_known, next_is, head_is, next_linked, next_unlinked_gone, next_unlinked_linked, next_unlinked_same}
 use Rattle.cordz_core.proofs.Steps.{fits_kept, allowed_next, stands, left_next, left_other, some_same, none_some}

@@ -1,21 +1,16 @@
 -- The queue after a history: which snapshots and which records stand in it, and in what order.
-use Rattle.std.proofs.Common.{◌≡◌, ◌≢◌, ℕ, zero, suc, ◌+◌, ◌<◌, ◌≤◌, Bool, true, false, cond, eqb, List, [], ◌∷◌, ◌++◌, length, Option, Some, None, ◌⊎◌, inl, inr, refl, sym, ap, ◌∙◌, subst, arith}
-use Rattle.std.specs.Prelude.{◌==◌, ◌&&◌, ◌||◌, nat_lt, nat_le}
+use Rattle.std.proofs.Common.{◌≡◌, ℕ, ◌+◌, ◌<◌, ◌≤◌, Bool, true, false, cond, List, [], ◌∷◌, ◌++◌, None, refl, sym, ap, ◌∙◌, arith}
+use Rattle.std.specs.Prelude.{◌==◌, ◌&&◌, ◌||◌, nat_lt}
 use Rattle.std.proofs.lemmas.Bool.Decides.{nat_tests}
-use Rattle.std.proofs.lemmas.Bool.{lt-ltb, le-ltb, eq-eqb, ne_eqb, eqb-true, cases_Bool}
+use Rattle.std.proofs.lemmas.Bool.{lt-ltb, le-ltb, eq-eqb, eqb-true}
 use Rattle.cordz_core.specs.declared.slot.Slot.{Slot}
 use Rattle.cordz_core.specs.declared.slot.Walker.{Walker}
 use Rattle.cordz_core.specs.declared.slot.Clock.{Clock}
-use Rattle.cordz_core.specs.declared.slot.SlotState.{SlotState}
-use Rattle.cordz_core.specs.declared.slot.SlotState.TheVariants.{Free, Reserved, Linked, Leaving, Queued, Clearing}
 use Rattle.cordz_core.specs.declared.queue.Waiting.{Waiting}
 use Rattle.cordz_core.specs.declared.queue.Waiting.TheVariants.{Snapshot, Record}
 use Rattle.cordz_core.specs.Queue.{has, leading, kept_behind, without_walker}
-use Rattle.cordz_core.specs.History.{Action, Reserves, Frees, Tracks, Unlinks, Settles, Snaps, Unsnaps, History, Use, Nobody, Holder, Tracked, use_of}
-use Rattle.cordz_core.specs.Times.{RecordTimes, SnapshotTimes, Course, Stays, Left, Done, stays, is_leaving, settled_course, unlinked, settled, records, snapshots, ended, unended, record_in}
-use Rattle.cordz_core.specs.Legal.{state_after, IsAllowed, IsLegal, queued, queue_after}
-use Rattle.cordz_core.proofs.Records.{CourseIn, left_now, settled_now, unlinked_other, unlinked_same, settled_other, settled_same}
-use Rattle.cordz_core.proofs.States.{SnapshotsIn, snapshots_in, waits, state_by_now, state_now, known, after_is_known, linked_is_linked, tracked_if_linked, tracked_if_leaving, last_in, OptionIn}
+use Rattle.cordz_core.specs.Times.{SnapshotTimes, ended, unended}
+use Rattle.cordz_core.proofs.States.{waits}
 
 -- the snapshots that live, by walker and birth, and those in the queue
 abbrev pub lives : List SnapshotTimes → List (ℕ × ℕ)

@@ -1,12 +1,11 @@
 -- What walks give: records that no older snapshot has let go, newest first, and all that stay linked.
-use Rattle.std.proofs.Common.{◌≡◌, ◌≢◌, ℕ, zero, suc, ◌+◌, ◌-◌, ◌<◌, ◌≤◌, Bool, true, false, cond, eqb, List, [], ◌∷◌, length, min, Option, Some, None, ◌⊎◌, inl, inr, refl, sym, ap, ◌∙◌, subst, arith}
+use Rattle.std.proofs.Common.{◌≡◌, ℕ, ◌+◌, ◌<◌, ◌≤◌, Bool, true, false, cond, List, [], ◌∷◌, length, Option, Some, None, ◌⊎◌, inl, inr, refl, sym, ap, ◌∙◌, subst, arith}
 use Rattle.std.specs.Prelude.{◌==◌, ◌&&◌, ◌||◌, not, nat_lt, nat_le}
-use Rattle.std.proofs.lemmas.Bool.Decides.{nat_tests}
-use Rattle.std.proofs.lemmas.Bool.{lt-ltb, le-leb, eq-eqb, eqb-true, ltb-true, leb-true, cases_Bool, cases_order}
-use Rattle.cordz_core.specs.History.{Action, History, Reserves, Frees, Tracks, Unlinks, Settles, Snaps, Unsnaps, stamps_given}
+use Rattle.std.proofs.lemmas.Bool.{lt-ltb, le-leb, eqb-true, ltb-true, leb-true}
+use Rattle.cordz_core.specs.History.{History, Reserves, Frees, Tracks, Unlinks, Settles, Snaps, Unsnaps, stamps_given}
 use Rattle.cordz_core.specs.Times.{RecordTimes, SnapshotTimes, Course, Stays, Left, Done, records, snapshots, newest, not_left, linked_at, seen_at, head_at, next_at, unended_at, has_older, deleted_at}
 use Rattle.cordz_core.proofs.Records.{CourseIn, AllIn, Older, records_in, records_older}
-use Rattle.cordz_core.specs.Walks.{Read, FoundBehind, Continues, IsWalk, lives_at, NoneDeleted, Follows, IsRun, EndsAt, IsWholeWalk, IsAmong, WasGiven, TrackedBefore, IsNewestFirst, stamps_of, CountsDown, IsNewestOf, NoneLinked, IsNewestBefore, NoneBefore}
+use Rattle.cordz_core.specs.Walks.{Read, FoundBehind, IsWalk, lives_at, NoneDeleted, IsRun, IsWholeWalk, IsAmong, WasGiven, IsNewestFirst, stamps_of, CountsDown, IsNewestOf, NoneLinked, IsNewestBefore, NoneBefore}
 
 and_one : (a b : Bool) → (a && b) ≡ true → a ≡ true
 and_one true b h = refl
@@ -223,7 +222,7 @@ stamps_count (Settles s ∷ h) = stamps_count h
 stamps_count (Snaps s ∷ h) = stamps_count h
 stamps_count (Unsnaps s ∷ h) = stamps_count h
 
-newest_among : (test : RecordTimes → Bool) (rs : List RecordTimes) (r : RecordTimes) → newest test rs ≡ Some r → IsAmong r rs
+pub newest_among : (test : RecordTimes → Bool) (rs : List RecordTimes) (r : RecordTimes) → newest test rs ≡ Some r → IsAmong r rs
 newest_among test [] r e = absurd (cc)
 newest_among test (x ∷ rs) r e = step (test x) (newest_among test rs r) e
   where

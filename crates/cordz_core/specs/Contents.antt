@@ -1,5 +1,5 @@
 -- What contracts see of a registry, and the rules that hold in each.
-use Rattle.std.specs.Prelude.{◌≡◌, ℕ, ◌+◌, ◌≤◌, ◌<◌, IsSome, List, [], ◌∷◌, Bool, true, false, Option, Some, None, length, slice_index_or, option_map}
+use Rattle.std.specs.Prelude.{◌≡◌, ℕ, ◌+◌, ◌≤◌, ◌<◌, IsSome, List, [], ◌∷◌, true, Option, Some, None, length, slice_index_or}
 use Rattle.cordz_core.specs.declared.slot.Slot.{Slot}
 use Rattle.cordz_core.specs.declared.slot.Clock.{Clock}
 use Rattle.cordz_core.specs.declared.slot.Entry.{Entry}

@@ -1,5 +1,5 @@
 -- Which lists of actions are legal, and what a registry is that such a list has made.
-use Rattle.std.specs.Prelude.{◌≡◌, ℕ, ◌+◌, ◌-◌, ◌^◌, ◌<◌, ◌≤◌, ◌==◌, ◌⊎◌, cond, Bool, true, false, List, [], ◌∷◌, ◌++◌, length, Option, Some, None, option_map, option_and_then, IsSome, slice_index_or}
+use Rattle.std.specs.Prelude.{◌≡◌, ℕ, ◌+◌, ◌-◌, ◌^◌, ◌<◌, ◌≤◌, ◌==◌, ◌⊎◌, cond, true, List, [], ◌∷◌, ◌++◌, length, Option, Some, None, option_map, option_and_then, IsSome, slice_index_or}
 use Rattle.cordz_core.specs.declared.slot.Slot.{Slot}
 use Rattle.cordz_core.specs.declared.slot.Entry.{Entry}
 use Rattle.cordz_core.specs.declared.slot.SlotState.{SlotState}
@@ -7,7 +7,7 @@ use Rattle.cordz_core.specs.declared.slot.SlotState.TheVariants.{Free, Reserved,
 use Rattle.cordz_core.specs.declared.queue.Waiting.{Waiting}
 use Rattle.cordz_core.specs.declared.queue.Waiting.TheVariants.{Snapshot, Record}
 use Rattle.cordz_core.specs.Queue.{has, kept_behind, without_walker}
-use Rattle.cordz_core.specs.Contents.{Contents, entry_in, birth_of, state_of}
+use Rattle.cordz_core.specs.Contents.{Contents, entry_in, birth_of}
 use Rattle.cordz_core.specs.History.{Action, Reserves, Frees, Tracks, Unlinks, Settles, Snaps, Unsnaps, History, Use, Nobody, Holder, Tracked, use_of, stamps_given, stamp_in}
 use Rattle.cordz_core.specs.Times.{RecordTimes, SnapshotTimes, Course, Stays, Left, Done, stays, records, snapshots, record_in, head_at, next_at, deleted_at, IsDeletionPlace, living}
 

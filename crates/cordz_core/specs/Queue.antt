@@ -1,8 +1,5 @@
 -- The deletion queue as a list: its front, and what leaves it.
-use Rattle.std.specs.Prelude.{◌≡◌, ℕ, ◌+◌, ◌<◌, ◌==◌, ◌||◌, cond, Bool, true, false, List, [], ◌∷◌, Option, Some, None}
-use Rattle.cordz_core.specs.declared.slot.Slot.{Slot}
-use Rattle.cordz_core.specs.declared.slot.Walker.{Walker}
-use Rattle.cordz_core.specs.declared.slot.Clock.{Clock}
+use Rattle.std.specs.Prelude.{◌≡◌, ℕ, ◌+◌, ◌<◌, ◌==◌, ◌||◌, cond, Bool, false, List, [], ◌∷◌}
 use Rattle.cordz_core.specs.declared.queue.Waiting.{Waiting}
 use Rattle.cordz_core.specs.declared.queue.Waiting.TheVariants.{Snapshot, Record}
 

@@ -1,8 +1,8 @@
 -- Walks over a history, and what becomes of a slot's record with an action.
-use Rattle.std.specs.Prelude.{◌≡◌, ◌≢◌, ℕ, ◌+◌, ◌-◌, ◌<◌, ◌≤◌, ◌==◌, ◌&&◌, ◌||◌, ◌⊎◌, cond, Bool, true, false, List, [], ◌∷◌, length, Option, Some, None}
+use Rattle.std.specs.Prelude.{◌≡◌, ◌≢◌, ℕ, ◌+◌, ◌-◌, ◌<◌, ◌≤◌, ◌==◌, ◌&&◌, ◌||◌, ◌⊎◌, Bool, true, false, List, [], ◌∷◌, length, Option, Some, None}
 use Rattle.cordz_core.specs.declared.slot.SlotState.TheVariants.{Clearing}
-use Rattle.cordz_core.specs.History.{Action, History, Reserves, Frees, Tracks, Unlinks, Settles, Snaps, Unsnaps, Use, Tracked, use_of, stamps_given}
-use Rattle.cordz_core.specs.Times.{RecordTimes, SnapshotTimes, Course, records, snapshots, linked_at, head_at, next_at, record_in, unended_at, deleted_at}
+use Rattle.cordz_core.specs.History.{Action, History, Reserves, Frees, Tracks, Unlinks, Settles, Snaps, Unsnaps, Tracked, use_of, stamps_given}
+use Rattle.cordz_core.specs.Times.{RecordTimes, SnapshotTimes, records, linked_at, head_at, next_at, record_in, unended_at, deleted_at}
 use Rattle.cordz_core.specs.Legal.{state_after}
 
 -- a read of a walk: its place, and the record that it gave
@@ -112,3 +112,18 @@ pub record IsNewestBefore (track place : ℕ) (rs : List RecordTimes) (r : Recor
 
 abbrev pub NoneBefore : ℕ → ℕ → List RecordTimes → Type 0
 NoneBefore track place rs = (x : RecordTimes) → IsAmong x rs → x.track < track → linked_at place x ≡ false
+
+-- the record is the last of its slot, which is still its own and isn't to be cleared
+pub record StillHolds (h : History) (r : RecordTimes) : Type 0 where
+  pub used : use_of h r.slot ≡ Tracked
+  pub last : record_in (records h) r.slot ≡ Some r
+  pub kept : state_after h r.slot ≢ Clearing
+
+abbrev pub AllHold : History → List Read → Type 0
+AllHold h [] = Unit {0}
+AllHold h (x ∷ xs) = StillHolds h x.found × AllHold h xs
+
+-- a record's slot and the place of its track, which never change
+abbrev pub key_of : Option RecordTimes → Option (ℕ × ℕ)
+key_of None = None
+key_of (Some r) = Some (r.slot, r.track)

@@ -1,9 +1,9 @@
 //! The laws of the registry, over every legal list of actions. The functions do nothing: each one's contract is its law.
-ghost use Rattle.std.specs.Prelude.{◌≡◌, ◌↔◌, ◌⊎◌, ℕ, ◌<◌, List, ◌∷◌, length, true, false, Some, None};
+ghost use Rattle.std.specs.Prelude.{◌≡◌, ◌↔◌, ◌⊎◌, ℕ, ◌<◌, ◌≤◌, List, ◌∷◌, length, true, false, Some, None};
 ghost use Rattle.cordz_core.specs.History.{Action, History, Tracked, Settles, Unsnaps, use_of, stamps_given};
 ghost use Rattle.cordz_core.specs.Legal.{IsLegal, IsDeletionOf};
 ghost use Rattle.cordz_core.specs.Times.{RecordTimes, records, snapshots, linked_at, seen_at, head_at, next_at};
-ghost use Rattle.cordz_core.specs.Walks.{Read, IsWalk, lives_at, NoneDeleted, IsWholeWalk, IsRun, IsNewestFirst, IsAmong, WasGiven, IsNewestOf, IsNewestBefore, NoneLinked, NoneBefore, BecomesClearing, stamps_of, CountsDown};
+ghost use Rattle.cordz_core.specs.Walks.{Read, IsWalk, lives_at, NoneDeleted, AllHold, key_of, IsWholeWalk, IsRun, IsNewestFirst, IsAmong, WasGiven, IsNewestOf, IsNewestBefore, NoneLinked, NoneBefore, BecomesClearing, stamps_of, CountsDown};
 
 /// The head is the linked record that was tracked last.
 pub fn head_is_newest()
@@ -31,6 +31,17 @@ pub fn clears_in_settle_or_unsnap()
 /// No record that a walk was given is deleted while the walk's snapshot lives.
 pub fn walked_records_live()
     ensures { (h : History) (birth place : ℕ) (walk : List Read) → IsWalk h birth walk → lives_at (snapshots h) birth place ≡ true → NoneDeleted (snapshots h) place walk }
+{}
+
+/// While a walk's snapshot lives, each slot that the walk was given still holds the record that it was given for, and isn't to be cleared.
+pub fn walked_slots_hold()
+    ensures { (walkers : ℕ) (h : History) (birth : ℕ) (walk : List Read) → IsLegal walkers h → IsWalk h birth walk → lives_at (snapshots h) birth (length h) ≡ true → AllHold h walk }
+{}
+
+/// What `head` and `next` gave at a place stays their answer at that place, whatever is done later.
+pub fn reads_stand()
+    ensures head { (a : Action) (h : History) (place : ℕ) → place ≤ length h → key_of (head_at (records (a ∷ h)) place) ≡ key_of (head_at (records h) place) }
+    ensures next { (a : Action) (h : History) (place : ℕ) (of later : RecordTimes) → place ≤ length h → IsAmong of (records h) → IsAmong later (records (a ∷ h)) → of.track ≡ later.track → key_of (next_at (records (a ∷ h)) later place) ≡ key_of (next_at (records h) of place) }
 {}
 
 /// A walk gives its records newest first, and each once.

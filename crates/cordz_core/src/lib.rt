@@ -8,6 +8,8 @@ mod links;
 mod queue;
 mod registry;
 mod slot;
+#[cfg(test)]
+mod tests;
 
 pub use answers::{RecordsFull, Settled};
 pub use queue::Waiting;

@@ -1,5 +1,5 @@
 //! The registry and its calls.
-ghost use Rattle.std.specs.Prelude.{◌≡◌, ◌≢◌, ◌↔◌, ◌⊎◌, ℕ, ◌+◌, ◌-◌, ◌^◌, ◌<◌, ◌≤◌, [], ◌∷◌, length, IfOk, OnOk, OnErr, IfErr, IsErr, IsSome, IsNone, IsTrue, true};
+ghost use Rattle.std.specs.Prelude.{◌≡◌, ◌≢◌, ◌↔◌, ◌⊎◌, ℕ, ◌+◌, ◌-◌, ◌^◌, ◌<◌, ◌≤◌, [], ◌∷◌, length, IfOk, OnOk, OnErr, IfErr, IsErr, IsSome, IsNone, IsTrue, true, false};
 ghost use Rattle.cordz_core.specs.Contents.{Contents, entry_in, state_of, birth_of};
 ghost use Rattle.cordz_core.specs.History.{History, Reserves, Frees, Tracks, Unlinks, Settles, Snaps, Unsnaps, Tracked, use_of};
 ghost use Rattle.cordz_core.specs.Legal.{Replays, IsDeletionOf, IsRisingFrom, head_after, next_after, settle_places};
@@ -75,10 +75,19 @@ impl Registry {
         self.entries[slot as usize].state
     }
 
+    /// How many walkers may hold a snapshot.
+    pub fn walkers(&self) -> u8
+        ensures same { result ≡ self.now.walkers }
+        ensures few { result ≤ 16 }
+    {
+        self.walkers
+    }
+
     /// Whether a walker holds a snapshot.
     pub fn is_walking(&self, walker: u8) -> bool
         requires { walker < 16 }
-        ensures { IsTrue result ↔ IsSome (birth_of self.now walker) }
+        ensures holds { IsTrue result ↔ IsSome (birth_of self.now walker) }
+        ensures none { result ≡ false → birth_of self.now walker ≡ None }
     {
         self.births[walker as usize].is_some()
     }

@@ -1,6 +1,5 @@
 -- What is left to write gives what is to be written.
-use Rattle.std.proofs.Common.{◌≡◌, ◌<◌, drop}
-use Rattle.std.specs.Prelude.{All}
+use Rattle.std.proofs.Common.{◌≡◌, drop}
 use Rattle.cordz_core.specs.Links.{cleared}
 use Rattle.cordz_core.proofs.links.clear.Given as goal
 

@@ -1,5 +1,5 @@
 -- No slot so far is free.
-use Rattle.std.proofs.Common.{◌≡◌, ◌≢◌, ℕ, ◌<◌}
+use Rattle.std.proofs.Common.{◌≢◌, ℕ, ◌<◌}
 use Rattle.cordz_core.specs.Contents.{entry_in}
 use Rattle.cordz_core.specs.declared.slot.SlotState.TheVariants.{Free}
 use Rattle.cordz_core.proofs.links.first_free.Given as goal

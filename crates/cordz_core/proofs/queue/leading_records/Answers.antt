@@ -1,5 +1,5 @@
 -- What was read off the front is no longer than the queue, and its slots fit.
-use Rattle.std.proofs.Common.{rules, lit<}
+use Rattle.std.proofs.Common.{lit<}
 use Rattle.cordz_core.proofs.Sound.{front_below, front_short, front_room}
 use Rattle.cordz_core.proofs.queue.leading_records.Goals as goal
 

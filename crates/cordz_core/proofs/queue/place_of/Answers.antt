@@ -1,5 +1,5 @@
 -- The walker's snapshot stands where it was found.
-use Rattle.std.proofs.Common.{◌≡◌, refl, arith}
+use Rattle.std.proofs.Common.{refl, arith}
 use Rattle.std.proofs.lemmas.Bool.{ne_eqb}
 use Rattle.cordz_core.proofs.Sound.{place_found, place_next, fit_at, keeps_snapshot}
 use Rattle.cordz_core.proofs.queue.place_of.Goals as goal

@@ -1,9 +1,8 @@
 -- A slot that is given back did not wait.
-use Rattle.std.proofs.Common.{◌≡◌, ◌≢◌, ◌<◌, ℕ, Some, None, refl, sym, ap, ◌∙◌, subst, arith, rules, lit<, ⊎_elim, length}
-use Rattle.cordz_core.specs.Contents.{Contents, state_of, birth_of, IsSound, entry_in}
+use Rattle.std.proofs.Common.{◌<◌, refl, sym, ap, ◌∙◌, subst, arith, ⊎_elim}
+use Rattle.cordz_core.specs.Contents.{Contents, state_of}
 use Rattle.cordz_core.specs.Inside.{contents_of}
-use Rattle.cordz_core.specs.declared.slot.Entry.{Entry}
-use Rattle.cordz_core.proofs.Sound.{sound_set, sound_moved, sound_queued, sound_begun, sound_ended, not_queued, all_blank, room_for, room_for_walker, marked_same, marked_entry, not_waiting, state_pointed_on, length-pointed_on}
+use Rattle.cordz_core.proofs.Sound.{sound_set, not_queued}
 use Rattle.std.proofs.Common.{◌-◌, ◌^◌, inl, inr}
 use Rattle.cordz_core.specs.Legal.{Replays}
 use Rattle.cordz_core.proofs.Steps.{freed_replays}

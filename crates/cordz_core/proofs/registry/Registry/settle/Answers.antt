@@ -1,9 +1,9 @@
 -- A record that is settled did not wait, so the queue has room for it.
-use Rattle.std.proofs.Common.{◌≡◌, ◌≢◌, ◌<◌, ℕ, Some, None, refl, sym, ap, ◌∙◌, subst, arith, rules, lit<, ⊎_elim, length}
-use Rattle.cordz_core.specs.Contents.{Contents, state_of, birth_of, IsSound, entry_in}
+use Rattle.std.proofs.Common.{◌≡◌, ◌<◌, refl, sym, ap, ◌∙◌, subst, arith, lit<}
+use Rattle.cordz_core.specs.Contents.{Contents, state_of}
 use Rattle.cordz_core.specs.Inside.{contents_of}
 use Rattle.cordz_core.specs.declared.slot.Entry.{Entry}
-use Rattle.cordz_core.proofs.Sound.{sound_set, sound_moved, sound_queued, sound_begun, sound_ended, not_queued, all_blank, room_for, room_for_walker, marked_same, marked_entry, not_waiting, state_pointed_on, length-pointed_on}
+use Rattle.cordz_core.proofs.Sound.{sound_queued, not_queued, room_for}
 use Rattle.std.proofs.Common.{◌-◌, ◌^◌, true, false}
 use Rattle.std.proofs.lemmas.Bool.{eqb-true, eq-eqb}
 use Rattle.std.proofs.lemmas.List.{nil_from_length}

@@ -1,10 +1,9 @@
 -- A walker without a snapshot has none in the queue, so there is room for it.
-use Rattle.std.proofs.Common.{◌≡◌, ◌≢◌, ◌<◌, ℕ, Some, None, refl, sym, ap, ◌∙◌, subst, arith, rules, lit<, ⊎_elim, length}
-use Rattle.cordz_core.specs.Contents.{Contents, state_of, birth_of, IsSound, entry_in}
+use Rattle.std.proofs.Common.{◌<◌, refl, sym, ap, ◌∙◌, subst, arith, lit<}
+use Rattle.cordz_core.specs.Contents.{Contents, birth_of}
 use Rattle.cordz_core.specs.Inside.{contents_of}
-use Rattle.cordz_core.specs.declared.slot.Entry.{Entry}
-use Rattle.cordz_core.proofs.Sound.{sound_set, sound_moved, sound_queued, sound_begun, sound_ended, not_queued, all_blank, room_for, room_for_walker, marked_same, marked_entry, not_waiting, state_pointed_on, length-pointed_on}
-use Rattle.std.proofs.Common.{◌-◌, ◌^◌, inl, inr}
+use Rattle.cordz_core.proofs.Sound.{sound_begun, room_for_walker}
+use Rattle.std.proofs.Common.{◌-◌, ◌^◌}
 use Rattle.cordz_core.specs.Legal.{Replays}
 use Rattle.cordz_core.proofs.Queues.{snapped_replays}
 use Rattle.cordz_core.proofs.registry.Registry.snap.Goals as goal

@@ -1,14 +1,9 @@
 -- A record that leaves the list did not wait, and its neighbours keep their states.
-use Rattle.std.proofs.Common.{◌≡◌, ◌≢◌, ◌<◌, ℕ, Some, None, refl, sym, ap, ◌∙◌, subst, arith, rules, lit<, ⊎_elim, length, drop}
-use Rattle.std.specs.Prelude.{remove}
-use Rattle.cordz_core.specs.Contents.{Contents, state_of, birth_of, IsSound, entry_in}
+use Rattle.std.proofs.Common.{◌<◌, refl, sym, ap, ◌∙◌, subst, arith, length}
+use Rattle.cordz_core.specs.Contents.{Contents, state_of}
 use Rattle.cordz_core.specs.Inside.{contents_of}
-use Rattle.cordz_core.specs.Links.{cleared}
-use Rattle.cordz_core.specs.Queue.{Apart, codes, leading, without_walker, AllFit, kept_behind}
-use Rattle.cordz_core.specs.declared.slot.Entry.{Entry}
-use Rattle.cordz_core.specs.declared.slot.SlotState.TheVariants.{Free, Queued}
-use Rattle.cordz_core.proofs.Sound.{length-pointed_back, sound_set, sound_unlinked, unlinked_moves, sound_ended, ended_ends, apart_without, fit_without, fits_from_marked, drop_leading, not_queued}
-use Rattle.std.proofs.Common.{◌-◌, ◌^◌, inl, inr}
+use Rattle.cordz_core.proofs.Sound.{length-pointed_back, sound_unlinked, unlinked_moves, not_queued}
+use Rattle.std.proofs.Common.{◌-◌, ◌^◌}
 use Rattle.cordz_core.specs.Legal.{Replays}
 use Rattle.cordz_core.proofs.Unlinks.{unlinked_replays}
 use Rattle.cordz_core.proofs.registry.Registry.unlink.Goals as goal
