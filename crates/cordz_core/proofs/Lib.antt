@@ -1,0 +1,14 @@
+pub mod Deleting
+pub mod Deletions
+pub mod Lists
+pub mod Nexts
+pub mod Numbers
+pub mod Queues
+pub mod Records
+pub mod Sound
+pub mod States
+pub mod Staying
+pub mod Steps
+pub mod Unlinks
+pub mod Waitings
+pub mod Walking
