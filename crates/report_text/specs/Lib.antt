@@ -1,4 +1,5 @@
 pub mod Quotes
 pub mod Replies
+pub mod Readable
 pub mod Outputs
 pub mod Lines

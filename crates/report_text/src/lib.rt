@@ -1,11 +1,13 @@
 //! The text of what a run answers, written a line at a time. No call takes memory.
 #![tactic(auto)]
 
+mod laws;
 mod line;
 mod quoting;
 mod refusing;
 mod replies;
 mod writing;
 
+pub use laws::{different_books_print_differently, different_replies_print_differently};
 pub use refusing::write_refusal;
 pub use writing::write_run;
