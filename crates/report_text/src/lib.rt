@@ -6,6 +6,8 @@ mod line;
 mod quoting;
 mod refusing;
 mod replies;
+#[cfg(test)]
+mod tests;
 mod writing;
 
 pub use laws::{different_books_print_differently, different_replies_print_differently};
