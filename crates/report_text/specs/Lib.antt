@@ -1,5 +1,6 @@
 pub mod Quotes
 pub mod Replies
+pub mod Readable
 pub mod Outputs
 pub mod Lines
 pub mod Summaries

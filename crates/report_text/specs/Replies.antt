@@ -1,5 +1,5 @@
 -- The text of an answer, without its newline.
-use Rattle.std.specs.Prelude.{◌≡◌, ℕ, ◌+◌, ◌≤◌, List, [], ◌∷◌, ◌++◌, length, Option, Some, None, codes, ◌==◌, if◌then◌else◌}
+use Rattle.std.specs.Prelude.{ℕ, ◌≤◌, List, [], ◌++◌, length, Option, Some, None, codes, ◌==◌, if◌then◌else◌}
 use Rattle.std.specs.Fmt.{decimal}
 use Rattle.plain_cord.specs.declared.limits.TheConstants.{MOST_SHOWN}
 use Rattle.plain_cord.specs.declared.reply.NewMark.{NewMark}

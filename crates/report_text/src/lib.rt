@@ -1,6 +1,7 @@
 //! The text of what a run answers, written a line at a time. No call takes memory.
 #![tactic(auto)]
 
+mod laws;
 mod line;
 mod quoting;
 mod refusing;
@@ -8,6 +9,10 @@ mod replies;
 mod summing;
 mod writing;
 
+pub use laws::{different_books_print_differently, different_replies_print_differently};
 pub use refusing::write_refusal;
 pub use summing::write_summary;
 pub use writing::write_run;
+
+#[cfg(test)]
+mod tests;

@@ -1,5 +1,5 @@
 -- A part of an answer's line, behind the lines before it.
-use Rattle.std.proofs.Common.{◌≡◌, ◌∙◌, ap, sym, take, drop, suc, get_or, ◌++◌, arith}
+use Rattle.std.proofs.Common.{◌∙◌, ap, sym, take, drop, suc, ◌++◌}
 use Rattle.cord_port.proofs.Appending.{part_more}
 use Rattle.report_text.specs.Outputs.{reply_line, reply_lines}
 use Rattle.report_text.proofs.Parts.{flat_map-parts}

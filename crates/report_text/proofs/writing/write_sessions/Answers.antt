@@ -1,5 +1,5 @@
 -- A session behind those before it, whole or in part.
-use Rattle.std.proofs.Common.{◌≡◌, ◌∙◌, ap, sym, subst, ◌++◌, ◌+◌, ◌<◌, List, ℕ, length, suc, take, drop, get_or, arith}
+use Rattle.std.proofs.Common.{◌∙◌, ap, sym, subst, ◌++◌, ◌<◌, List, ℕ, length, suc, take, drop, arith}
 use Rattle.std.specs.List.{flat_map, zip}
 use Rattle.std.specs.Io.KnownBytes.{Appends}
 use Rattle.cord_port.proofs.Appending.{appends_more, part_more, whole_part}

@@ -1,0 +1,76 @@
+-- Books are known by what is printed of them.
+use Rattle.std.proofs.Common.{◌≡◌, ◌∙◌, sym, ap, ap₂, refl, ℕ, true, false, List, [], ◌∷◌, ◌++◌, length, arith, append_assoc}
+use Rattle.std.proofs.lemmas.List.{append_cancel_left}
+use Rattle.std.proofs.lemmas.List.Elements.{recursion_from_All}
+use Rattle.std.specs.List.{All, AllByRecursion}
+use Rattle.plain_cord.specs.declared.script.Session.{Session}
+use Rattle.plain_cord.specs.declared.reply.Reply.{Reply}
+use Rattle.plain_cord.specs.declared.reply.Book.{Book}
+use Rattle.report_text.specs.Replies.{reply_text}
+use Rattle.report_text.specs.Outputs.{reply_line, reply_lines, session_line, output_text}
+use Rattle.report_text.specs.Readable.{IsReadableReply, IsReadable}
+use Rattle.report_text.proofs.Runs.{run_split}
+use Rattle.report_text.proofs.QuoteLaws.{in_line}
+use Rattle.report_text.proofs.ReplyLaws.{reply_injective, reply-in-line, at_end, reply-no-end}
+
+line-first : (reply : Reply) (replies : List Reply) (rest : List ℕ) → reply_lines (reply ∷ replies) ++ rest ≡ reply_text reply ++ 10 ∷ (reply_lines replies ++ rest)
+line-first reply replies rest = append_assoc (reply_line reply) (reply_lines replies) rest ∙ append_assoc (reply_text reply) (10 ∷ []) (reply_lines replies ++ rest)
+
+-- a line more is no end
+line-no-end : (reply : Reply) (replies : List Reply) (rest others : List ℕ) → IsReadableReply reply → reply_lines (reply ∷ replies) ++ rest ≡ others → at_end others ≡ true → ⊥
+line-no-end reply replies rest others p e end =
+    let no : at_end others ≡ false = ap at_end (sym e ∙ line-first reply replies rest) ∙ reply-no-end reply (10 ∷ (reply_lines replies ++ rest)) p in
+    let both : true ≡ false = sym end ∙ no in
+    cc
+
+-- answers up to the end of their session
+pub lines_split : (xs ys : List Reply) (rest others : List ℕ) → AllByRecursion IsReadableReply xs → AllByRecursion IsReadableReply ys → at_end rest ≡ true → at_end others ≡ true → reply_lines xs ++ rest ≡ reply_lines ys ++ others → (xs ≡ ys) × (rest ≡ others)
+lines_split [] [] rest others p q r o e = (refl, e)
+lines_split [] (y ∷ ys) rest others p q r o e = absurd (line-no-end y ys others rest q.0 (sym e) r)
+lines_split (x ∷ xs) [] rest others p q r o e = absurd (line-no-end x xs rest others p.0 e o)
+lines_split (x ∷ xs) (y ∷ ys) rest others p q r o e =
+    let texts = sym (line-first x xs rest) ∙ (e ∙ line-first y ys others) in
+    let line = run_split in_line (reply_text x) (reply_text y) (10 ∷ (reply_lines xs ++ rest)) (10 ∷ (reply_lines ys ++ others)) (reply-in-line x p.0) (reply-in-line y q.0) refl refl texts in
+    let split = lines_split xs ys rest others p.1 q.1 r o (behind line.1) in
+    (ap₂ (λ reply replies. reply ∷ replies) (reply_injective x y p.0 q.0 line.0) split.0, split.1)
+  where
+    behind : {xs ys : List ℕ} → 10 ∷ xs ≡ 10 ∷ ys → xs ≡ ys
+    behind e = cc
+
+output-first : (session : Session) (sessions : List Session) (book : Book) (books : List Book) → output_text (session ∷ sessions) (book ∷ books) ≡ session_line session.name ++ (reply_lines book.replies ++ output_text sessions books)
+output-first session sessions book books = append_assoc (session_line session.name) (reply_lines book.replies) (output_text sessions books)
+
+output-at-end : (sessions : List Session) (books : List Book) → length books ≡ length sessions → at_end (output_text sessions books) ≡ true
+output-at-end [] [] e = refl
+output-at-end [] (book ∷ books) e = absurd (omega arith)
+output-at-end (session ∷ sessions) [] e = absurd (omega arith)
+output-at-end (session ∷ sessions) (book ∷ books) e = refl
+
+abbrev IsReadableBook : Book → Type 0
+IsReadableBook book = AllByRecursion IsReadableReply book.replies
+
+books_injective : (sessions : List Session) (books others : List Book) → length books ≡ length sessions → length others ≡ length sessions → AllByRecursion IsReadableBook books → AllByRecursion IsReadableBook others → output_text sessions books ≡ output_text sessions others → books ≡ others
+books_injective [] [] [] m n p q e = refl
+books_injective [] (book ∷ books) others m n p q e = absurd (omega arith)
+books_injective [] [] (other ∷ others) m n p q e = absurd (omega arith)
+books_injective (session ∷ sessions) [] others m n p q e = absurd (omega arith)
+books_injective (session ∷ sessions) (book ∷ books) [] m n p q e = absurd (omega arith)
+books_injective (session ∷ sessions) (book ∷ books) (other ∷ others) m n p q e =
+    let fewer : length books ≡ length sessions = omega arith in
+    let less : length others ≡ length sessions = omega arith in
+    let texts = append_cancel_left (session_line session.name) (reply_lines book.replies ++ output_text sessions books) (reply_lines other.replies ++ output_text sessions others)
+    (sym (output-first session sessions book books) ∙ (e ∙ output-first session sessions other others)) in
+    let split = lines_split book.replies other.replies (output_text sessions books) (output_text sessions others) p.0 q.0 (output-at-end sessions books fewer) (output-at-end sessions others less) texts in
+    let first : book ≡ other = ap (λ replies. record { replies = replies }) split.0 in
+    ap₂ (λ book books. book ∷ books) first (books_injective sessions books others fewer less p.1 q.1 split.1)
+
+-- each answer of each book
+readable : (books : List Book) → AllByRecursion (λ book. All IsReadableReply book.replies) books → AllByRecursion IsReadableBook books
+readable [] p = tt
+readable (book ∷ books) p = (recursion_from_All IsReadableReply book.replies p.0, readable books p.1)
+
+each : (books : List Book) → All (λ book. All IsReadableReply book.replies) books → AllByRecursion IsReadableBook books
+each books p = readable books (recursion_from_All (λ book. All IsReadableReply book.replies) books p)
+
+pub books_known : (sessions : List Session) (books others : List Book) → IsReadable sessions books → IsReadable sessions others → output_text sessions books ≡ output_text sessions others → books ≡ others
+books_known sessions books others p q e = books_injective sessions books others p.paired q.paired (each books p.replies) (each others q.replies) e

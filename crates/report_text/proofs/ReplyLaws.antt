@@ -1,0 +1,247 @@
+-- Answers are known by their text, and none begins as a session's line does.
+use Rattle.std.proofs.Common.{◌≡◌, ◌∙◌, sym, ap, refl, ℕ, Bool, true, false, if◌then◌else◌, List, [], ◌∷◌, ◌++◌, get_or, arith, nat_eq, ◌==◌, ◌&&◌, Option, Some, None, IfSome, decimal, codes, append_assoc, append-nil, eqb-true}
+use Rattle.std.proofs.lemmas.List.{append_cancel_left}
+use Rattle.std.specs.List.{AllByRecursion}
+use Rattle.std.proofs.lemmas.Fmt.{decimal_injective}
+use Rattle.std.proofs.lemmas.List.Elements.{recursion_from_All}
+use Rattle.std.proofs.lemmas.Bool.Decides.{nat_tests}
+use Rattle.plain_cord.specs.declared.reply.NewMark.{NewMark}
+use Rattle.plain_cord.specs.declared.reply.NewMark.TheVariants.{Plain, Noted, Full}
+use Rattle.plain_cord.specs.declared.reply.Reply.{Reply}
+use Rattle.plain_cord.specs.declared.reply.Reply.TheVariants as replies
+use Rattle.report_text.specs.Quotes.{quoted_bytes}
+use Rattle.report_text.specs.Replies.{mark_text, gone_text, more_text, reply_text}
+use Rattle.report_text.specs.Readable.{IsNumber, IsByte, IsInLine, IsReadableMark, IsReadableReply}
+use Rattle.report_text.proofs.Runs.{all_pass, all_pass-append, stops, both-pass, is_digit, decimal-passes, decimal_split, decimal-begins, decimal-first}
+use Rattle.report_text.proofs.QuoteLaws.{in_line, quoted_split, quoted-in-line}
+
+-- behind two bytes that are the same
+behind-two : {a b : ℕ} {xs ys : List ℕ} → a ∷ b ∷ xs ≡ a ∷ b ∷ ys → xs ≡ ys
+behind-two e = cc
+
+behind-one : {a : ℕ} {xs ys : List ℕ} → a ∷ xs ≡ a ∷ ys → xs ≡ ys
+behind-one e = cc
+
+-- no mark, and one that isn't
+gone_injective : (gone lost : Option ℕ) → IfSome gone IsNumber → IfSome lost IsNumber → gone_text gone ≡ gone_text lost → gone ≡ lost
+gone_injective None None g l e = refl
+gone_injective None (Some n) g l e = cc
+gone_injective (Some m) None g l e = cc
+gone_injective (Some m) (Some n) g l e = ap (λ k. Some k) (decimal_split m n (codes " gone") (codes " gone") g l refl refl (behind-two e)).0
+
+noted-text : (stamp update n : ℕ) (rest : List ℕ) → mark_text (Noted stamp update n) ++ rest ≡ 32 ∷ 126 ∷ (decimal stamp ++ 46 ∷ (decimal update ++ 32 ∷ (decimal n ++ rest)))
+noted-text stamp update n rest = simp append_assoc
+
+-- what stands behind a number is no digit
+gone-stops : (gone : Option ℕ) → stops is_digit (gone_text gone) ≡ true
+gone-stops None = refl
+gone-stops (Some n) = refl
+
+space-or-point : {xs ys : List ℕ} → 32 ∷ xs ≡ 46 ∷ ys → ⊥
+space-or-point e = cc
+
+-- the mark of a stamp that is gone, as a new note
+gone-no-note : (gone : Option ℕ) (stamp : ℕ) (rest : List ℕ) → IfSome gone IsNumber → IsNumber stamp → gone_text gone ≡ 32 ∷ 126 ∷ (decimal stamp ++ 46 ∷ rest) → ⊥
+gone-no-note None stamp rest g s e = cc
+gone-no-note (Some n) stamp rest g s e = space-or-point (decimal_split n stamp (codes " gone") (46 ∷ rest) g s refl refl (behind-two e)).1
+
+gone-not-full : (gone lost : Option ℕ) → IfSome gone IsNumber → gone_text gone ≡ codes " ~full" ++ gone_text lost → ⊥
+gone-not-full None lost g e = cc
+gone-not-full (Some n) lost g e = decimal-begins n (codes " gone") (codes "full" ++ gone_text lost) g (behind-two e) refl
+
+note-not-full : (stamp : ℕ) (rest : List ℕ) (lost : Option ℕ) → IsNumber stamp → 32 ∷ 126 ∷ (decimal stamp ++ rest) ≡ codes " ~full" ++ gone_text lost → ⊥
+note-not-full stamp rest lost s e = decimal-begins stamp rest (codes "full" ++ gone_text lost) s (behind-two e) refl
+
+marks_injective : (new other : NewMark) (gone lost : Option ℕ) → IsReadableMark new → IsReadableMark other → IfSome gone IsNumber → IfSome lost IsNumber → mark_text new ++ gone_text gone ≡ mark_text other ++ gone_text lost → (new ≡ other) × (gone ≡ lost)
+marks_injective Plain Plain gone lost n o g l e = (refl, gone_injective gone lost g l e)
+marks_injective Plain (Noted s u k) gone lost n o g l e = absurd (gone-no-note gone s (decimal u ++ 32 ∷ (decimal k ++ gone_text lost)) g o.0 (e ∙ noted-text s u k (gone_text lost)))
+marks_injective Plain Full gone lost n o g l e = absurd (gone-not-full gone lost g e)
+marks_injective (Noted s u k) Plain gone lost n o g l e = absurd (gone-no-note lost s (decimal u ++ 32 ∷ (decimal k ++ gone_text gone)) l n.0 (sym e ∙ noted-text s u k (gone_text gone)))
+marks_injective (Noted s u k) (Noted t v m) gone lost n o g l e =
+    let texts = behind-two (sym (noted-text s u k (gone_text gone)) ∙ (e ∙ noted-text t v m (gone_text lost))) in
+    let stamps = decimal_split s t (46 ∷ (decimal u ++ 32 ∷ (decimal k ++ gone_text gone))) (46 ∷ (decimal v ++ 32 ∷ (decimal m ++ gone_text lost))) n.0 o.0 refl refl texts in
+    let updates = decimal_split u v (32 ∷ (decimal k ++ gone_text gone)) (32 ∷ (decimal m ++ gone_text lost)) n.1 o.1 refl refl (behind-one stamps.1) in
+    let lengths = decimal_split k m (gone_text gone) (gone_text lost) n.2 o.2 (gone-stops gone) (gone-stops lost) (behind-one updates.1) in
+    let first : s ≡ t = stamps.0 in
+    let second : u ≡ v = updates.0 in
+    let third : k ≡ m = lengths.0 in
+    (cc, gone_injective gone lost g l lengths.1)
+marks_injective (Noted s u k) Full gone lost n o g l e = absurd (note-not-full s (46 ∷ (decimal u ++ 32 ∷ (decimal k ++ gone_text gone))) lost n.0 (sym (noted-text s u k (gone_text gone)) ∙ e))
+marks_injective Full Plain gone lost n o g l e = absurd (gone-not-full lost gone l (sym e))
+marks_injective Full (Noted s u k) gone lost n o g l e = absurd (note-not-full s (46 ∷ (decimal u ++ 32 ∷ (decimal k ++ gone_text lost))) gone o.0 (sym (noted-text s u k (gone_text lost)) ∙ sym e))
+marks_injective Full Full gone lost n o g l e = (refl, gone_injective gone lost g l (append_cancel_left (codes " ~full") (gone_text gone) (gone_text lost) e))
+
+-- how many more bytes there are
+more-by : (first second : Bool) (m n : ℕ) → IsNumber m → IsNumber n → m == 0 ≡ first → n == 0 ≡ second → (if first then [] else codes " +" ++ decimal m) ≡ (if second then [] else codes " +" ++ decimal n) → m ≡ n
+more-by true true m n p q f s e = eqb-true m 0 f ∙ sym (eqb-true n 0 s)
+more-by true false m n p q f s e = cc
+more-by false true m n p q f s e = cc
+more-by false false m n p q f s e = decimal_injective m n p q (behind-two e)
+
+more_injective : (m n : ℕ) → IsNumber m → IsNumber n → more_text m ≡ more_text n → m ≡ n
+more_injective m n p q e = more-by (m == 0) (n == 0) m n p q refl refl e
+
+shown-text : (text : List ℕ) (more : ℕ) → reply_text (replies.Shown text more) ≡ 34 ∷ (quoted_bytes text ++ 34 ∷ more_text more)
+shown-text text more = ap (λ rest. 34 ∷ rest) (append_assoc (quoted_bytes text) (34 ∷ []) (more_text more))
+
+position-text : (asked n : ℕ) → reply_text (replies.Position asked n) ≡ codes "! position " ++ (decimal asked ++ 32 ∷ decimal n)
+position-text asked n = ap (λ rest. codes "! position " ++ rest) (append_assoc (decimal asked) (32 ∷ []) (decimal n))
+
+-- the variants, counted
+abbrev variant : Reply → ℕ
+variant (replies.Done new lost) = 0
+variant (replies.Number n) = 1
+variant (replies.Sum n) = 2
+variant replies.None = 3
+variant (replies.Shown text more) = 4
+variant replies.Less = 5
+variant replies.Equal = 6
+variant replies.Greater = 7
+variant replies.Yes = 8
+variant replies.No = 9
+variant (replies.Unset name) = 10
+variant replies.NoBytes = 11
+variant (replies.Position asked n) = 12
+variant (replies.Length asked) = 13
+
+-- the variant of a text, by its first byte, or by its first and third
+abbrev refused_variant : ℕ → ℕ
+refused_variant b = if b == 117 then 10 else (if b == 110 then 11 else (if b == 112 then 12 else 13))
+
+abbrev word_variant : ℕ → ℕ → ℕ
+word_variant b c = if b == 111 then 0 else (if b == 115 then 2 else (if b == 110 then (if c == 110 then 3 else 9) else (if b == 34 then 4 else (if b == 108 then 5 else (if b == 101 then 6 else (if b == 103 then 7 else (if b == 121 then 8 else refused_variant c)))))))
+
+abbrev variant_of : List ℕ → ℕ
+variant_of text = if is_digit (get_or text 0 0) then 1 else word_variant (get_or text 0 0) (get_or text 2 0)
+
+variant_of-number : (n : ℕ) → IsNumber n → variant_of (decimal n) ≡ 1
+variant_of-number n small =
+    let digit : is_digit (get_or (decimal n) 0 0) ≡ true = ap (λ text. is_digit (get_or text 0 0)) (sym (append-nil (decimal n))) ∙ decimal-first n [] 0 small in
+    ap (λ b. if b then 1 else word_variant (get_or (decimal n) 0 0) (get_or (decimal n) 2 0)) digit
+
+variant_of-text : (reply : Reply) → IsReadableReply reply → variant_of (reply_text reply) ≡ variant reply
+variant_of-text (replies.Done new lost) p = refl
+variant_of-text (replies.Number n) p = variant_of-number n p
+variant_of-text (replies.Sum n) p = refl
+variant_of-text replies.None p = refl
+variant_of-text (replies.Shown text more) p = refl
+variant_of-text replies.Less p = refl
+variant_of-text replies.Equal p = refl
+variant_of-text replies.Greater p = refl
+variant_of-text replies.Yes p = refl
+variant_of-text replies.No p = refl
+variant_of-text (replies.Unset name) p = refl
+variant_of-text replies.NoBytes p = refl
+variant_of-text (replies.Position asked n) p = refl
+variant_of-text (replies.Length asked) p = refl
+
+same-variant : (x y : Reply) → IsReadableReply x → IsReadableReply y → reply_text x ≡ reply_text y → variant x ≡ variant y
+same-variant x y p q e = sym (variant_of-text x p) ∙ (ap variant_of e ∙ variant_of-text y q)
+
+not-same : (m n : ℕ) → m ≡ n → nat_eq m n ≡ false → ⊥
+not-same m n e h = grind (arith, nat_tests)
+
+positions : (i j m n : ℕ) → IsNumber i → IsNumber j → IsNumber m → IsNumber n → reply_text (replies.Position i m) ≡ reply_text (replies.Position j n) → replies.Position i m ≡ replies.Position j n
+positions i j m n a b c d e =
+    let texts = append_cancel_left (codes "! position ") (decimal i ++ 32 ∷ decimal m) (decimal j ++ 32 ∷ decimal n) (sym (position-text i m) ∙ (e ∙ position-text j n)) in
+    let split = decimal_split i j (32 ∷ decimal m) (32 ∷ decimal n) a b refl refl texts in
+    let places : i ≡ j = split.0 in
+    let sizes : m ≡ n = decimal_injective m n c d (behind-one split.1) in
+    cc
+
+showings : (xs ys : List ℕ) (m n : ℕ) → AllByRecursion IsByte xs → AllByRecursion IsByte ys → IsNumber m → IsNumber n → reply_text (replies.Shown xs m) ≡ reply_text (replies.Shown ys n) → replies.Shown xs m ≡ replies.Shown ys n
+showings xs ys m n a b c d e =
+    let split = quoted_split xs ys (more_text m) (more_text n) a b (behind-one (sym (shown-text xs m) ∙ (e ∙ shown-text ys n))) in
+    let texts : xs ≡ ys = split.0 in
+    let counts : m ≡ n = more_injective m n c d split.1 in
+    cc
+
+dones : (new other : NewMark) (gone lost : Option ℕ) → (new ≡ other) × (gone ≡ lost) → replies.Done new gone ≡ replies.Done other lost
+dones new other gone lost same =
+    let news : new ≡ other = same.0 in
+    let gones : gone ≡ lost = same.1 in
+    cc
+
+pub reply_injective : (x y : Reply) → IsReadableReply x → IsReadableReply y → reply_text x ≡ reply_text y → x ≡ y
+reply_injective (replies.Done new gone) (replies.Done other lost) p q e = dones new other gone lost (marks_injective new other gone lost p.0 q.0 p.1 q.1 (append_cancel_left (codes "ok") (mark_text new ++ gone_text gone) (mark_text other ++ gone_text lost) e))
+reply_injective (replies.Number m) (replies.Number n) p q e = ap (λ k. replies.Number k) (decimal_injective m n p q e)
+reply_injective (replies.Sum m) (replies.Sum n) p q e = ap (λ k. replies.Sum k) (decimal_injective m n p q (append_cancel_left (codes "sum ") (decimal m) (decimal n) e))
+reply_injective replies.None replies.None p q e = refl
+reply_injective (replies.Shown xs m) (replies.Shown ys n) p q e = showings xs ys m n (recursion_from_All IsByte xs p.0) (recursion_from_All IsByte ys q.0) p.1 q.1 e
+reply_injective replies.Less replies.Less p q e = refl
+reply_injective replies.Equal replies.Equal p q e = refl
+reply_injective replies.Greater replies.Greater p q e = refl
+reply_injective replies.Yes replies.Yes p q e = refl
+reply_injective replies.No replies.No p q e = refl
+reply_injective (replies.Unset a) (replies.Unset b) p q e = ap (λ name. replies.Unset name) (append_cancel_left (codes "! unset ") a b e)
+reply_injective replies.NoBytes replies.NoBytes p q e = refl
+reply_injective (replies.Position i m) (replies.Position j n) p q e = positions i j m n p.0 q.0 p.1 q.1 e
+reply_injective (replies.Length m) (replies.Length n) p q e = ap (λ k. replies.Length k) (decimal_injective m n p q (append_cancel_left (codes "! length ") (decimal m) (decimal n) e))
+reply_injective x y p q e = absurd (not-same (variant x) (variant y) (same-variant x y p q e) refl)
+
+-- no newline is in an answer
+number-in-line : (n : ℕ) → IsNumber n → all_pass in_line (decimal n) ≡ true
+number-in-line n small = decimal-passes in_line (λ d below. grind (arith, nat_tests)) n small
+
+name-in-line : (name : List ℕ) → AllByRecursion IsInLine name → all_pass in_line name ≡ true
+name-in-line [] p = refl
+name-in-line (b ∷ name) p = both-pass (in_line b) (all_pass in_line name) (byte-in-line b p.0) (name-in-line name p.1)
+  where
+    byte-in-line : (b : ℕ) → IsInLine b → in_line b ≡ true
+    byte-in-line b other = grind (arith, nat_tests)
+
+gone-in-line : (gone : Option ℕ) → IfSome gone IsNumber → all_pass in_line (gone_text gone) ≡ true
+gone-in-line None g = refl
+gone-in-line (Some n) g = all_pass-append in_line (decimal n) (codes " gone") (number-in-line n g) refl
+
+mark-in-line : (new : NewMark) → IsReadableMark new → all_pass in_line (mark_text new) ≡ true
+mark-in-line Plain p = refl
+mark-in-line (Noted stamp update n) p =
+    let text : mark_text (Noted stamp update n) ≡ 32 ∷ 126 ∷ (decimal stamp ++ 46 ∷ (decimal update ++ 32 ∷ decimal n)) = simp append_assoc in
+    ap (all_pass in_line) text ∙ all_pass-append in_line (decimal stamp) (46 ∷ (decimal update ++ 32 ∷ decimal n)) (number-in-line stamp p.0)
+    (all_pass-append in_line (decimal update) (32 ∷ decimal n) (number-in-line update p.1) (number-in-line n p.2))
+mark-in-line Full p = refl
+
+more-in-line : (first : Bool) (n : ℕ) → IsNumber n → all_pass in_line (if first then [] else codes " +" ++ decimal n) ≡ true
+more-in-line true n small = refl
+more-in-line false n small = number-in-line n small
+
+pub reply-in-line : (reply : Reply) → IsReadableReply reply → all_pass in_line (reply_text reply) ≡ true
+reply-in-line (replies.Done new gone) p = all_pass-append in_line (mark_text new) (gone_text gone) (mark-in-line new p.0) (gone-in-line gone p.1)
+reply-in-line (replies.Number n) p = number-in-line n p
+reply-in-line (replies.Sum n) p = number-in-line n p
+reply-in-line replies.None p = refl
+reply-in-line (replies.Shown text more) p =
+    ap (all_pass in_line) (shown-text text more) ∙ all_pass-append in_line (quoted_bytes text) (34 ∷ more_text more) (quoted-in-line text (recursion_from_All IsByte text p.0)) (more-in-line (more == 0) more p.1)
+reply-in-line replies.Less p = refl
+reply-in-line replies.Equal p = refl
+reply-in-line replies.Greater p = refl
+reply-in-line replies.Yes p = refl
+reply-in-line replies.No p = refl
+reply-in-line (replies.Unset name) p = name-in-line name (recursion_from_All IsInLine name p)
+reply-in-line replies.NoBytes p = refl
+reply-in-line (replies.Position asked n) p = ap (all_pass in_line) (position-text asked n) ∙ all_pass-append in_line (decimal asked) (32 ∷ decimal n) (number-in-line asked p.0) (number-in-line n p.1)
+reply-in-line (replies.Length asked) p = number-in-line asked p
+
+-- at the end of the text or before a session's line
+abbrev pub at_end : List ℕ → Bool
+at_end text = get_or text 0 115 == 115 && get_or text 1 101 == 101
+
+digit-no-end : (b c : ℕ) → is_digit b ≡ true → (b == 115 && c == 101) ≡ false
+digit-no-end b c digit = grind (arith, nat_tests)
+
+pub reply-no-end : (reply : Reply) (rest : List ℕ) → IsReadableReply reply → at_end (reply_text reply ++ rest) ≡ false
+reply-no-end (replies.Done new lost) rest p = refl
+reply-no-end (replies.Number n) rest p = digit-no-end (get_or (decimal n ++ rest) 0 115) (get_or (decimal n ++ rest) 1 101) (decimal-first n rest 115 p)
+reply-no-end (replies.Sum n) rest p = refl
+reply-no-end replies.None rest p = refl
+reply-no-end (replies.Shown text more) rest p = refl
+reply-no-end replies.Less rest p = refl
+reply-no-end replies.Equal rest p = refl
+reply-no-end replies.Greater rest p = refl
+reply-no-end replies.Yes rest p = refl
+reply-no-end replies.No rest p = refl
+reply-no-end (replies.Unset name) rest p = refl
+reply-no-end replies.NoBytes rest p = refl
+reply-no-end (replies.Position asked n) rest p = refl
+reply-no-end (replies.Length asked) rest p = refl

@@ -1,0 +1,41 @@
+-- Answers that are read back from their text.
+use Rattle.std.specs.Prelude.{◌≡◌, ℕ, ◌<◌, ◌^◌, List, length, IfSome}
+use Rattle.std.specs.List.{All}
+use Rattle.plain_cord.specs.declared.script.Session.{Session}
+use Rattle.plain_cord.specs.declared.reply.NewMark.{NewMark}
+use Rattle.plain_cord.specs.declared.reply.NewMark.TheVariants.{Plain, Noted, Full}
+use Rattle.plain_cord.specs.declared.reply.Reply.{Reply}
+use Rattle.plain_cord.specs.declared.reply.Reply.TheVariants as replies
+use Rattle.plain_cord.specs.declared.reply.Book.{Book}
+
+-- a number of 64 bits
+abbrev pub IsNumber : ℕ → Type 0
+IsNumber n = n < 2 ^ 64
+
+abbrev pub IsByte : ℕ → Type 0
+IsByte b = b < 256
+
+-- any byte but the newline
+abbrev pub IsInLine : ℕ → Type 0
+IsInLine b = ¬ (b ≡ 10)
+
+abbrev pub IsReadableMark : NewMark → Type 0
+IsReadableMark Plain = Unit {0}
+IsReadableMark (Noted stamp update n) = IsNumber stamp × IsNumber update × IsNumber n
+IsReadableMark Full = Unit {0}
+
+-- its numbers are numbers of 64 bits, what it shows is bytes, and the name in it has no newline
+abbrev pub IsReadableReply : Reply → Type 0
+IsReadableReply (replies.Done new gone) = IsReadableMark new × IfSome gone IsNumber
+IsReadableReply (replies.Number n) = IsNumber n
+IsReadableReply (replies.Sum n) = IsNumber n
+IsReadableReply (replies.Shown text more) = All IsByte text × IsNumber more
+IsReadableReply (replies.Unset name) = All IsInLine name
+IsReadableReply (replies.Position asked n) = IsNumber asked × IsNumber n
+IsReadableReply (replies.Length asked) = IsNumber asked
+IsReadableReply _ = Unit {0}
+
+-- one book for each session, of readable answers
+pub record IsReadable (sessions : List Session) (books : List Book) : Type 0 where
+  pub paired : length books ≡ length sessions
+  pub replies : All (λ book. All IsReadableReply book.replies) books

@@ -1,0 +1,203 @@
+//! Texts that are known from the rules of the format.
+ghost use Rattle.std.specs.Prelude.{◌≡◌, ◌≤◌, length, IfOk, OnOk};
+ghost use Rattle.std.specs.List.{All};
+ghost use Rattle.report_text.specs.Replies.{IsShortReply};
+
+use super::*;
+use cord_port::MemorySink;
+use plain_cord::{Book, Items, NewMark, Reply, Script, Session};
+use std::alloc::{AllocError, Global};
+use std::test::Fail;
+
+/// Adds an answer that is short enough to be written.
+fn add(answers: &mut Items<Reply>, reply: Reply) -> Result<(), AllocError>
+    requires short { IsShortReply reply }
+    requires before { All IsShortReply answers.old }
+    ensures { OnOk result (All IsShortReply answers.new) }
+{
+    answers.push(reply)
+}
+
+fn add_shown(
+    alloc: Global,
+    answers: &mut Items<Reply>,
+    bytes: &[u8],
+    more: u64,
+) -> Result<(), AllocError>
+    requires short { length bytes.now ≤ 4096 }
+    requires before { All IsShortReply answers.old }
+    ensures { OnOk result (All IsShortReply answers.new) }
+{
+    let text = Items::from_slice(alloc, bytes)?;
+    add(answers, Reply::Shown { text, more })
+}
+
+fn session_of(alloc: Global, name: &[u8]) -> Result<Session, AllocError>
+    ensures { IfOk result (λ session. session.name ≡ name.now) }
+{
+    let name = Items::from_slice(alloc, name)?;
+    Ok(Session {
+        name,
+        commands: Items::new(alloc),
+    })
+}
+
+/// The sink after a run of the sessions `a` and `b1`, and whether all was written.
+fn sink_after(
+    alloc: Global,
+    first: Items<Reply>,
+    second: Items<Reply>,
+    most: usize,
+    fails: Vec<u32>,
+) -> Result<(MemorySink, bool), Fail>
+    requires first { All IsShortReply first }
+    requires second { All IsShortReply second }
+{
+    let a = session_of(alloc, b"a")?;
+    let b = session_of(alloc, b"b1")?;
+    let mut sessions = Items::new(alloc);
+    sessions.push(a)?;
+    sessions.push(b)?;
+    let script = Script {
+        pool: 1,
+        passes: 1,
+        stride: 0,
+        sessions,
+    };
+    let books = [Book { replies: first }, Book { replies: second }];
+    let mut sink = MemorySink::new(alloc, 4096, most, fails)?;
+    let written = write_run(&script, books.as_slice(), &mut sink).is_ok();
+    Ok((sink, written))
+}
+
+/// `ok` with each mark, numbers and sums.
+fn marks_and_numbers(alloc: Global) -> Result<Items<Reply>, AllocError>
+    ensures { IfOk result (λ answers. All IsShortReply answers) }
+{
+    let new = NewMark::Noted {
+        stamp: 2,
+        update: 0,
+        length: 20,
+    };
+    let gone = Some(18446744073709551615);
+    let mut answers = Items::new(alloc);
+    add(
+        &mut answers,
+        Reply::Done {
+            new: NewMark::Plain,
+            gone: None,
+        },
+    )?;
+    add(&mut answers, Reply::Done { new, gone: None })?;
+    add(&mut answers, Reply::Done { new, gone: Some(1) })?;
+    add(
+        &mut answers,
+        Reply::Done {
+            new: NewMark::Full,
+            gone: None,
+        },
+    )?;
+    add(
+        &mut answers,
+        Reply::Done {
+            new: NewMark::Full,
+            gone,
+        },
+    )?;
+    add(
+        &mut answers,
+        Reply::Done {
+            new: NewMark::Plain,
+            gone: Some(1),
+        },
+    )?;
+    add(&mut answers, Reply::Number { value: 0 })?;
+    add(
+        &mut answers,
+        Reply::Number {
+            value: 18446744073709551615,
+        },
+    )?;
+    add(&mut answers, Reply::Sum { value: 4294967295 })?;
+    add(&mut answers, Reply::None)?;
+    Ok(answers)
+}
+
+fn words_and_refusals(alloc: Global) -> Result<Items<Reply>, AllocError>
+    ensures { IfOk result (λ answers. All IsShortReply answers) }
+{
+    let mut answers = Items::new(alloc);
+    add(&mut answers, Reply::Less)?;
+    add(&mut answers, Reply::Equal)?;
+    add(&mut answers, Reply::Greater)?;
+    add(&mut answers, Reply::Yes)?;
+    add(&mut answers, Reply::No)?;
+    let name = Items::from_slice(alloc, b"x")?;
+    add(&mut answers, Reply::Unset { name })?;
+    add(&mut answers, Reply::NoBytes)?;
+    add(
+        &mut answers,
+        Reply::Position {
+            asked: 21,
+            size: 20,
+        },
+    )?;
+    add(&mut answers, Reply::Length { asked: 2147483648 })?;
+    Ok(answers)
+}
+
+#[test]
+fn answers_have_their_texts(rt: HostRuntime) -> Result<(), Fail> {
+    let first = marks_and_numbers(rt.alloc())?;
+    let second = words_and_refusals(rt.alloc())?;
+    let (sink, written) = sink_after(rt.alloc(), first, second, 4096, Vec::new(rt.alloc()))?;
+    assert!(rt; written);
+    let wanted =
+        b"session a\nok\nok ~2.0 20\nok ~2.0 20 ~1 gone\nok ~full\nok ~full ~18446744073709551615 gone\nok ~1 gone\n0\n18446744073709551615\nsum 4294967295\nnone\nsession b1\nless\nequal\ngreater\nyes\nno\n! unset x\n! no bytes\n! position 21 20\n! length 2147483648\n";
+    assert_eq!(rt; sink.bytes(), wanted.as_slice());
+    Ok(())
+}
+
+#[test]
+fn shown_bytes_are_quoted_also_byte_by_byte(rt: HostRuntime) -> Result<(), Fail> {
+    let mut first = Items::new(rt.alloc());
+    add_shown(rt.alloc(), &mut first, b"", 0)?;
+    add_shown(rt.alloc(), &mut first, b"a\"\\\n", 1)?;
+    add_shown(
+        rt.alloc(),
+        &mut first,
+        b"\x00\x1f \x7e\x7f\xff",
+        18446744073709551615,
+    )?;
+    let second = Items::new(rt.alloc());
+    let (sink, written) = sink_after(rt.alloc(), first, second, 1, Vec::new(rt.alloc()))?;
+    assert!(rt; written);
+    let wanted =
+        b"session a\n\"\"\n\"a\\\"\\\\\\n\" +1\n\"\\x00\\x1f ~\\x7f\\xff\" +18446744073709551615\nsession b1\n";
+    assert_eq!(rt; sink.bytes(), wanted.as_slice());
+    Ok(())
+}
+
+#[test]
+fn failing_sink_holds_the_lines_before(rt: HostRuntime) -> Result<(), Fail> {
+    let mut first = Items::new(rt.alloc());
+    add(&mut first, Reply::Yes)?;
+    add(&mut first, Reply::No)?;
+    let second = Items::new(rt.alloc());
+    let fails = vec![in rt.alloc(); 3u32]?;
+    let (sink, written) = sink_after(rt.alloc(), first, second, 4096, fails)?;
+    assert!(rt; !written);
+    assert_eq!(rt; sink.bytes(), b"session a\nyes\n".as_slice());
+    Ok(())
+}
+
+#[test]
+fn refusal_names_its_line(rt: HostRuntime) -> Result<(), Fail> {
+    let mut sink = MemorySink::new(rt.alloc(), 99, 7, Vec::new(rt.alloc()))?;
+    assert!(rt; write_refusal(4294967295, b"command", &mut sink).is_ok());
+    assert_eq!(rt;
+        sink.bytes(),
+        b"refused at line 4294967295: command\n".as_slice()
+    );
+    Ok(())
+}
