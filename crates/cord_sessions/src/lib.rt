@@ -6,6 +6,8 @@ mod ending;
 mod running;
 mod script_run;
 mod session;
+#[cfg(test)]
+mod tests;
 mod top;
 
 pub use ending::{Ending, MOST_SCRIPT};
