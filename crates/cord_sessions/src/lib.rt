@@ -7,6 +7,8 @@ mod laws;
 mod running;
 mod script_run;
 mod session;
+#[cfg(test)]
+mod tests;
 mod top;
 
 pub use ending::{Ending, MOST_SCRIPT};

@@ -1,0 +1,435 @@
+//! Scripts whose whole output is known from the rules of the language, and the ends of a call when the outside fails.
+use super::*;
+use cord_port::{Gate, LogReleaser, MemorySink, MemorySource, Releaser};
+use std::alloc::{AllocError, Global};
+use std::process::Abort;
+use std::sync::Wait;
+use std::sync::atomic::{AtomicUsize, Ordering};
+use std::test::Fail;
+use std::thread::Threads;
+
+// A gate that counts its calls, and those that came in the order of a session's commands.
+#[derive(Drop)]
+struct CountingGate {
+    calls: AtomicUsize,
+    in_order: AtomicUsize,
+}
+
+impl CountingGate {
+    fn new() -> CountingGate {
+        CountingGate {
+            calls: AtomicUsize::new(0),
+            in_order: AtomicUsize::new(0),
+        }
+    }
+}
+
+impl Gate for CountingGate {
+    fn before<R: Wait>(&self, _rt: &R, session: usize, command: usize) {
+        let call = self.calls.fetch_add(1, Ordering::Relaxed);
+        if session == 0 && command == call {
+            self.in_order.fetch_add(1, Ordering::Relaxed);
+        }
+    }
+}
+
+// What the program answers to one word.
+fn status_of<R: Threads + Wait + Sync>(
+    rt: &R,
+    alloc: Global,
+    word: &str,
+    source: &mut MemorySource,
+    sink: &mut MemorySink,
+) -> Result<u8, AllocError> {
+    let words = vec![in alloc; String::from_str(alloc, word)?]?;
+    let gate = CountingGate::new();
+    let finish = run_program(rt, alloc, &words, source, sink, &gate, Vec::new(alloc));
+    Ok(finish.status)
+}
+
+// A source of these bytes that never fails.
+fn source_of(alloc: Global, bytes: &str) -> Result<MemorySource, AllocError> {
+    let bytes = Vec::from_slice(alloc, bytes.as_bytes())?;
+    Ok(MemorySource::new(bytes, Vec::new(alloc)))
+}
+
+// The commands of a session, and the answers that are wanted.
+#[derive(Drop)]
+struct Dialogue {
+    script: String,
+    wanted: String,
+}
+
+impl Dialogue {
+    fn new(alloc: Global) -> Result<Dialogue, AllocError> {
+        let script = String::from_str(alloc, "cords 1\nsession a\n")?;
+        let wanted = String::from_str(alloc, "session a\n")?;
+        Ok(Dialogue { script, wanted })
+    }
+
+    fn add(&mut self, command: &str, answer: &str) -> Result<(), AllocError> {
+        self.script.push_str(command)?;
+        self.script.push_str("\n")?;
+        self.wanted.push_str(answer)?;
+        self.wanted.push_str("\n")?;
+        Ok(())
+    }
+
+    // Runs the session, and holds its output against what is wanted.
+    fn hold<R: Threads + Wait + Abort + Sync>(mut self, rt: &R, alloc: Global) -> Result<(), Fail> {
+        self.script.push_str("end")?;
+        let mut source = source_of(alloc, self.script.as_str())?;
+        let mut sink = MemorySink::new(alloc, 65536, 65536, Vec::new(alloc))?;
+        let status = status_of(rt, alloc, "run", &mut source, &mut sink)?;
+        assert_eq!(rt; sink.bytes(), self.wanted.as_str().as_bytes());
+        assert_eq!(rt; status, 0);
+        Ok(())
+    }
+}
+
+const HELLO: &str = "cords 1\nsession a\nlet x \"ab\"\nappend x \"c\"\nsize x\nprint x\nend\n";
+
+#[test]
+fn script_is_run_and_checked(rt: HostRuntime) -> Result<(), Fail> {
+    for (script, ran, checked, status) in [
+        (
+            HELLO,
+            "session a\nok\nok\n3\n\"abc\"\n",
+            "ok 1 sessions 4 commands\n",
+            0,
+        ),
+        ("cords 1\n", "", "ok 0 sessions 0 commands\n", 0),
+        (
+            "cords 1\nsession a\nend\n",
+            "session a\n",
+            "ok 1 sessions 0 commands\n",
+            0,
+        ),
+        (
+            "",
+            "refused at line 1: header\n",
+            "refused at line 1: header\n",
+            1,
+        ),
+        (
+            "cords 1\nsession a\nlet x \"ab\n",
+            "refused at line 3: text\n",
+            "refused at line 3: text\n",
+            1,
+        ),
+        (
+            "cords 1\nsession a\nlet x \"\\q\"\n",
+            "refused at line 3: text\n",
+            "refused at line 3: text\n",
+            1,
+        ),
+        (
+            "cords 1\nsession a\n",
+            "refused at line 3: unended\n",
+            "refused at line 3: unended\n",
+            1,
+        ),
+    ] {
+        for (word, wanted) in [("run", ran), ("check", checked)] {
+            let mut source = source_of(rt.alloc(), script)?;
+            let mut sink = MemorySink::new(rt.alloc(), 64, 64, Vec::new(rt.alloc()))?;
+            assert_eq!(rt;
+                status_of(&rt, rt.alloc(), word, &mut source, &mut sink)?,
+                status
+            );
+            assert_eq!(rt; sink.bytes(), wanted.as_bytes());
+        }
+    }
+    Ok(())
+}
+
+#[test]
+fn commands_answer_as_byte_strings(rt: HostRuntime) -> Result<(), Fail> {
+    let mut dialogue = Dialogue::new(rt.alloc())?;
+    for (command, answer) in [
+        ("let x \"0123456789abcdefghij\"", "ok"),
+        ("sub x 25 3 y", "ok"),
+        ("size y", "0"),
+        ("sub x 18 100 z", "ok"),
+        ("print z", "\"ij\""),
+        ("sub x 0 16 w", "ok"),
+        ("print w", "\"0123456789abcdef\""),
+        ("cutfront x 21", "! position 21 20"),
+        ("size x", "20"),
+        ("cutfront x 20", "ok"),
+        ("print x", "\"\""),
+        ("let x \"a\"*4083", "ok"),
+        ("append x \"b\"", "ok"),
+        ("at x 4082", "97"),
+        ("at x 4083", "98"),
+        ("at x 4084", "! position 4084 4084"),
+        ("append x \"c\"", "ok"),
+        ("find x \"\"", "0"),
+        ("find x \"ab\"", "4082"),
+        ("find x \"ca\"", "none"),
+        ("starts x \"aa\"", "yes"),
+        ("ends x \"abc\"", "yes"),
+        ("ends x \"bb\"", "no"),
+        ("let p \"\\x7f\"", "ok"),
+        ("let q \"\\x80\"", "ok"),
+        ("compare p q", "less"),
+        ("let p \"ab\"", "ok"),
+        ("let q \"abc\"", "ok"),
+        ("compare q p", "greater"),
+        ("let p \"a\"*20", "ok"),
+        ("let q \"a\"*19", "ok"),
+        ("append q \"a\"", "ok"),
+        ("setsum p 7", "ok"),
+        ("compare p q", "equal"),
+    ] {
+        dialogue.add(command, answer)?;
+    }
+    dialogue.hold(&rt, rt.alloc())
+}
+
+#[test]
+fn sums_are_carried_and_lost(rt: HostRuntime) -> Result<(), Fail> {
+    let mut dialogue = Dialogue::new(rt.alloc())?;
+    for (command, answer) in [
+        ("let x \"abc\"", "ok"),
+        ("setsum x 7", "ok"),
+        ("copy x y", "ok"),
+        ("append x \"\"", "ok"),
+        ("sum x", "sum 7"),
+        ("append x \"d\"", "ok"),
+        ("sum x", "none"),
+        ("cutfront y 0", "ok"),
+        ("sum y", "sum 7"),
+        ("sub y 0 3 z", "ok"),
+        ("sum z", "none"),
+        ("let e \"\"", "ok"),
+        ("setsum e 1", "! no bytes"),
+        ("join y e", "ok"),
+        ("sum y", "sum 7"),
+        ("cutback y 4", "! position 4 3"),
+        ("sum y", "sum 7"),
+        ("joinfront z y", "ok"),
+        ("sum z", "none"),
+        ("clear y", "ok"),
+        ("sum y", "none"),
+    ] {
+        dialogue.add(command, answer)?;
+    }
+    dialogue.hold(&rt, rt.alloc())
+}
+
+#[test]
+fn commands_answer_at_lengths_of_0_1_15_and_16(rt: HostRuntime) -> Result<(), Fail> {
+    let ok = ["ok"; 4];
+    let sum = ["none", "sum 7", "sum 7", "sum 7"];
+    let rows = [
+        ("size x", ["0", "1", "15", "16"]),
+        (
+            "print x",
+            [
+                "\"\"",
+                "\"a\"",
+                "\"abcdefghijklmno\"",
+                "\"abcdefghijklmnop\"",
+            ],
+        ),
+        ("at x 0", ["! position 0 0", "97", "97", "97"]),
+        (
+            "at x 14",
+            ["! position 14 0", "! position 14 1", "111", "111"],
+        ),
+        (
+            "at x 15",
+            [
+                "! position 15 0",
+                "! position 15 1",
+                "! position 15 15",
+                "112",
+            ],
+        ),
+        ("find x \"\"", ["0", "0", "0", "0"]),
+        ("find x \"a\"", ["none", "0", "0", "0"]),
+        ("find x \"op\"", ["none", "none", "none", "14"]),
+        ("starts x \"a\"", ["no", "yes", "yes", "yes"]),
+        ("ends x \"no\"", ["no", "no", "yes", "no"]),
+        ("compare x x", ["equal"; 4]),
+        ("setsum x 7", ["! no bytes", "ok", "ok", "ok"]),
+        ("sum x", sum),
+        ("copy x y", ok),
+        ("sum y", sum),
+        ("compare x y", ["equal"; 4]),
+        ("append y \"z\"", ok),
+        ("sum y", ["none"; 4]),
+        ("compare x y", ["less"; 4]),
+        ("prepend y \"z\"", ok),
+        ("size y", ["2", "3", "17", "18"]),
+        (
+            "cutfront y 16",
+            ["! position 16 2", "! position 16 3", "ok", "ok"],
+        ),
+        ("cutback y 1", ok),
+        ("print y", ["\"z\"", "\"za\"", "\"\"", "\"p\""]),
+        ("sub x 1 14 y", ok),
+        (
+            "print y",
+            ["\"\"", "\"\"", "\"bcdefghijklmno\"", "\"bcdefghijklmno\""],
+        ),
+        ("join y x", ok),
+        ("size y", ["0", "1", "29", "30"]),
+        ("joinfront y x", ok),
+        ("size y", ["0", "2", "44", "46"]),
+        ("clear y", ok),
+        ("size y", ["0"; 4]),
+        ("sum x", sum),
+    ];
+    let texts = [
+        "let x \"\"",
+        "let x \"a\"",
+        "let x \"abcdefghijklmno\"",
+        "let x \"abcdefghijklmnop\"",
+    ];
+    for column in 0..4 {
+        let mut dialogue = Dialogue::new(rt.alloc())?;
+        dialogue.add(texts[column], "ok")?;
+        for (command, answers) in rows {
+            dialogue.add(command, answers[column])?;
+        }
+        dialogue.hold(&rt, rt.alloc())?;
+    }
+    Ok(())
+}
+
+#[test]
+fn names_stand_for_their_own_cords(rt: HostRuntime) -> Result<(), Fail> {
+    let mut dialogue = Dialogue::new(rt.alloc())?;
+    for (command, answer) in [
+        ("compare x y", "! unset x"),
+        ("sub x 0 1 y", "! unset x"),
+        ("print y", "! unset y"),
+        ("let x \"ab\"", "ok"),
+        ("setsum x 9", "ok"),
+        ("join x y", "! unset y"),
+        ("joinfront y x", "! unset y"),
+        ("cutback x 3", "! position 3 2"),
+        ("print x", "\"ab\""),
+        ("sum x", "sum 9"),
+        ("let x1 \"one\"", "ok"),
+        ("let x12 \"twelve\"", "ok"),
+        ("print x", "\"ab\""),
+        ("print x1", "\"one\""),
+        ("print x12", "\"twelve\""),
+        ("print x123", "! unset x123"),
+        ("join x x", "ok"),
+        ("print x", "\"abab\""),
+        ("joinfront x x", "ok"),
+        ("print x", "\"abababab\""),
+        ("compare x x", "equal"),
+        ("copy x x", "ok"),
+        ("sub x 1 2 x", "ok"),
+        ("print x", "\"ba\""),
+        ("cutback x 2", "ok"),
+        ("print x", "\"\""),
+        ("join x x", "ok"),
+        ("size x", "0"),
+        ("cutfront x 1", "! position 1 0"),
+        ("compare x x1", "less"),
+    ] {
+        dialogue.add(command, answer)?;
+    }
+    for i in 0..64 {
+        let command = format!(in rt.alloc(); "let x{i} \"{i}\"")?;
+        dialogue.add(command.as_str(), "ok")?;
+    }
+    for i in 0..64 {
+        let command = format!(in rt.alloc(); "print x{i}")?;
+        let answer = format!(in rt.alloc(); "\"{i}\"")?;
+        dialogue.add(command.as_str(), answer.as_str())?;
+    }
+    dialogue.hold(&rt, rt.alloc())
+}
+
+#[test]
+fn faults_of_source_and_sink_end_the_call(rt: HostRuntime) -> Result<(), Fail> {
+    let first = vec![in rt.alloc(); 1u32]?;
+    let third = vec![in rt.alloc(); 3u32]?;
+    let mut source = source_of(rt.alloc(), HELLO)?;
+    let mut sink = MemorySink::new(rt.alloc(), 64, 64, third)?;
+    assert_eq!(rt;
+        status_of(&rt, rt.alloc(), "run", &mut source, &mut sink)?,
+        4
+    );
+    assert_eq!(rt; sink.bytes(), b"session a\nok\n".as_slice());
+
+    let bytes = Vec::from_slice(rt.alloc(), HELLO.as_bytes())?;
+    let mut source = MemorySource::new(bytes, first);
+    let mut sink = MemorySink::new(rt.alloc(), 64, 64, Vec::new(rt.alloc()))?;
+    assert_eq!(rt;
+        status_of(&rt, rt.alloc(), "run", &mut source, &mut sink)?,
+        3
+    );
+    assert_eq!(rt; sink.bytes(), b"read fault\n".as_slice());
+
+    assert_eq!(rt; check_script(rt.alloc(), &mut source, &mut sink), 0);
+    assert_eq!(rt;
+        sink.bytes(),
+        b"read fault\nok 1 sessions 4 commands\n".as_slice()
+    );
+    Ok(())
+}
+
+#[test]
+fn one_byte_too_many_is_no_script(rt: HostRuntime) -> Result<(), Fail> {
+    let bytes = vec![in rt.alloc(); b'#'; 16777217]?;
+    let mut source = MemorySource::new(bytes, Vec::new(rt.alloc()));
+    let mut sink = MemorySink::new(rt.alloc(), 64, 64, Vec::new(rt.alloc()))?;
+    assert_eq!(rt;
+        status_of(&rt, rt.alloc(), "run", &mut source, &mut sink)?,
+        6
+    );
+    assert_eq!(rt; sink.bytes(), b"script too long\n".as_slice());
+    Ok(())
+}
+
+#[test]
+fn other_words_get_the_usage_line_and_releasers_come_back(rt: HostRuntime) -> Result<(), Fail> {
+    let usage = "usage: cords run | cords check | cords load SEED SESSIONS COMMANDS\n";
+    let none: [&str; 0] = [];
+    for (words, wanted, status, calls) in [
+        (["run"].as_slice(), "session a\nok\nok\n3\n\"abc\"\n", 0, 5),
+        (["check"].as_slice(), "ok 1 sessions 4 commands\n", 0, 0),
+        (none.as_slice(), usage, 2, 0),
+        (["run", "x"].as_slice(), usage, 2, 0),
+        (["Run"].as_slice(), usage, 2, 0),
+        (["--help"].as_slice(), usage, 2, 0),
+        (["load", "01", "1", "1"].as_slice(), usage, 2, 0),
+    ] {
+        let mut given = Vec::new(rt.alloc());
+        for word in words {
+            given.push(String::from_str(rt.alloc(), word)?)?;
+        }
+        let mut boxes: Vec<Box<dyn Releaser + Send>> = Vec::new(rt.alloc());
+        for _ in 0..2 {
+            boxes.push(Box::new(rt.alloc(), LogReleaser::new(rt.alloc(), 4)?)?)?;
+        }
+        let gate = CountingGate::new();
+        let mut source = source_of(rt.alloc(), HELLO)?;
+        let mut sink = MemorySink::new(rt.alloc(), 128, 128, Vec::new(rt.alloc()))?;
+        let finish = run_program(
+            &rt,
+            rt.alloc(),
+            &given,
+            &mut source,
+            &mut sink,
+            &gate,
+            boxes,
+        );
+        assert_eq!(rt; (finish.status, finish.returned.len()), (status, 2));
+        assert_eq!(rt; sink.bytes(), wanted.as_bytes());
+        for releaser in &finish.returned {
+            assert_eq!(rt; (releaser.calls(), releaser.latest()), (0, None));
+        }
+        assert_eq!(rt; gate.calls.load(Ordering::Relaxed), calls);
+        assert_eq!(rt; gate.in_order.load(Ordering::Relaxed), calls);
+    }
+    Ok(())
+}
