@@ -1,5 +1,5 @@
 -- What is said of the bytes that were read is said of the whole call.
-use Rattle.std.proofs.Common.{◌≡◌, ℕ, ◌+◌, ◌≤◌, List, length, arith}
+use Rattle.std.proofs.Common.{ℕ, ◌+◌, ◌≤◌, List, arith}
 use Rattle.script_reader.proofs.WholeLaws.{never_both}
 use Rattle.cord_sessions.specs.declared.ending.TheConstants.{MOST_SCRIPT}
 use Rattle.cord_sessions.specs.declared.asked.Asked.{Asked}

@@ -1,5 +1,5 @@
 -- The answers of a run are short enough to be printed.
-use Rattle.std.proofs.Common.{◌≡◌, ◌∙◌, sym, ap, subst, ℕ, ◌+◌, ◌<◌, ◌≤◌, List, [], ◌∷◌, length, take, Option, Some, None, Bool, true, false, suc, refl, arith}
+use Rattle.std.proofs.Common.{◌≡◌, sym, ap, subst, ℕ, ◌<◌, ◌≤◌, List, [], ◌∷◌, length, take, Option, Some, None, Bool, true, false, suc, refl, arith}
 use Rattle.std.specs.Prelude.{◌-◌, ◌++◌, drop, slice_get, nat_eq, nat_le, ◌==◌, if◌then◌else◌}
 use Rattle.std.specs.List.{starts_with, ends_with}
 use Rattle.std.specs.Cmp.Lexicographic.{slice_cmp}
@@ -21,7 +21,7 @@ use Rattle.plain_cord.specs.States.{CordState, Environment, no_names, changed}
 use Rattle.plain_cord.specs.declared.limits.TheConstants.{MOST_BYTES, MOST_SHOWN}
 use Rattle.plain_cord.specs.Outcomes.{Outcome, outcome, with_found, with_cord, edited, refused, grown, cut, number_or_none, sum_or_none, byte_or_position, yes_or_no, order_reply}
 use Rattle.plain_cord.specs.Steps.{IsOutcome, PlainRun}
-use Rattle.plain_cord.specs.Runs.{IsBookOf, IsPlainRun}
+use Rattle.plain_cord.specs.Runs.{IsPlainRun}
 use Rattle.report_text.specs.Replies.{IsShortReply}
 use Rattle.report_text.specs.Outputs.{IsPrintable}
 use Rattle.script_words.specs.Spelling.{IsName}

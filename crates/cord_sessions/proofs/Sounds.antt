@@ -1,5 +1,5 @@
 -- Each command of a script that was read has a plain step.
-use Rattle.std.proofs.Common.{◌≡◌, List, true, false}
+use Rattle.std.proofs.Common.{◌≡◌, List, true}
 use Rattle.std.specs.List.{All}
 use Rattle.plain_cord.specs.declared.script.Session.{Session}
 use Rattle.plain_cord.specs.declared.script.Command.{Command}
@@ -7,7 +7,7 @@ use Rattle.plain_cord.specs.declared.script.Command.TheVariants as commands
 use Rattle.plain_session.specs.Commands.{IsByteCommand}
 use Rattle.script_reader.specs.Built.{is_ready}
 use Rattle.script_reader.specs.Spelling.{command_verb}
-use Rattle.script_reader.specs.Limits.{HasSoundParts, IsSoundCommand, IsSoundSession}
+use Rattle.script_reader.specs.Limits.{HasSoundParts, IsSoundSession}
 use Rattle.cord_sessions.specs.Runnable.{IsRunnable}
 
 has-step : (command : Command) → is_ready (command_verb command) ≡ true → HasSoundParts command → IsByteCommand command

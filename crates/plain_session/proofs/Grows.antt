@@ -1,5 +1,5 @@
 -- The three ways of a change that adds bytes.
-use Rattle.std.proofs.Common.{◌≡◌, ◌≢◌, ℕ, ◌+◌, ◌*◌, ◌<◌, ◌≤◌, List, ◌++◌, zero, suc, ap, sym, ◌∙◌, refl, arith, length-append}
+use Rattle.std.proofs.Common.{◌≡◌, ◌≢◌, ℕ, ◌+◌, ◌*◌, ◌<◌, ◌≤◌, List, ◌++◌, zero, suc, ap, ◌∙◌, arith, length-append}
 use Rattle.std.specs.Prelude.{length}
 use Rattle.std.proofs.lemmas.Bool.Decides.{nat_tests}
 use Rattle.std.proofs.Math.Nat.{mul-suc}
@@ -8,7 +8,7 @@ use Rattle.plain_cord.specs.declared.reply.Reply.TheVariants as replies
 use Rattle.plain_cord.specs.declared.reply.NewMark.TheVariants as marks
 use Rattle.plain_cord.specs.Texts.{repeated}
 use Rattle.plain_cord.specs.States.{CordState, plain}
-use Rattle.plain_cord.specs.Outcomes.{grown, edited}
+use Rattle.plain_cord.specs.Outcomes.{grown}
 use Rattle.plain_session.specs.Edits.{Leaves}
 use Rattle.std.specs.Prelude.{None}
 

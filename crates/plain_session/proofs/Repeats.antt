@@ -1,6 +1,6 @@
 -- A piece that stands once more, and a single byte that stands several times.
-use Rattle.std.proofs.Common.{◌≡◌, ◌∙◌, sym, ap, refl, ℕ, ◌+◌, ◌*◌, ◌<◌, ◌≤◌, List, [], ◌∷◌, ◌++◌, zero, suc, add-one, append-nil, mul-le-mul_left, arith}
-use Rattle.std.specs.Prelude.{replicate, length}
+use Rattle.std.proofs.Common.{◌≡◌, ◌∙◌, sym, ap, refl, ℕ, ◌+◌, ◌*◌, ◌<◌, ◌≤◌, List, [], ◌∷◌, ◌++◌, zero, suc, append-nil, mul-le-mul_left, arith}
+use Rattle.std.specs.Prelude.{replicate}
 use Rattle.std.specs.List.{concat}
 use Rattle.std.proofs.Math.Nat.{mul-suc}
 use Rattle.std.proofs.lemmas.List.{replicate_more}

@@ -1,5 +1,5 @@
 -- The commands that need byte strings alone.
-use Rattle.std.specs.Prelude.{ℕ, ◌*◌, ◌≤◌, length}
+use Rattle.std.specs.Prelude.{◌*◌, ◌≤◌, length}
 use Rattle.plain_cord.specs.declared.script.Text.{Text}
 use Rattle.plain_cord.specs.declared.script.Command.{Command}
 use Rattle.plain_cord.specs.declared.script.Command.TheVariants as commands

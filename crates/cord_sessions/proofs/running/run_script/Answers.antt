@@ -1,5 +1,5 @@
 -- One session more.
-use Rattle.std.proofs.Common.{◌≡◌, ◌+◌, sym, subst, List, [], ◌∷◌, ◌++◌, take, arith}
+use Rattle.std.proofs.Common.{◌+◌, sym, subst, List, [], ◌∷◌, ◌++◌, take, arith}
 use Rattle.plain_cord.specs.declared.script.Session.{Session}
 use Rattle.plain_cord.specs.declared.reply.Book.{Book}
 use Rattle.plain_cord.specs.Runs.{IsPlainRun}

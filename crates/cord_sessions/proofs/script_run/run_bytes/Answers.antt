@@ -1,5 +1,5 @@
 -- A script that was read can be run, and its books printed.
-use Rattle.std.proofs.Common.{◌≡◌, sym, subst, List}
+use Rattle.std.proofs.Common.{sym, subst, List}
 use Rattle.plain_cord.specs.declared.reply.Book.{Book}
 use Rattle.report_text.specs.Outputs.{IsPrintable}
 use Rattle.cord_sessions.proofs.Sounds.{runnable}

@@ -1,5 +1,5 @@
 -- One command more.
-use Rattle.std.proofs.Common.{◌≡◌, ◌+◌, sym, subst, List, [], ◌∷◌, ◌++◌, take}
+use Rattle.std.proofs.Common.{◌+◌, sym, subst, List, [], ◌∷◌, ◌++◌, take}
 use Rattle.plain_cord.specs.declared.script.Command.{Command}
 use Rattle.plain_cord.specs.declared.reply.Reply.{Reply}
 use Rattle.plain_cord.specs.States.{no_names}

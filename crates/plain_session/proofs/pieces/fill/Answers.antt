@@ -1,5 +1,4 @@
 -- What resizing adds is the byte so many times.
-use Rattle.std.proofs.Common.{rules, ◌≡◌, sym}
 use Rattle.std.proofs.lemmas.Grind.{common_steps}
 use Rattle.std.proofs.Common.{arith}
 use Rattle.plain_session.proofs.Repeats.{repeated-byte}

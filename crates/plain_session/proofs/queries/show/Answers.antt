@@ -1,5 +1,5 @@
 -- Few bytes are shown whole.
-use Rattle.std.proofs.Common.{◌≡◌, ◌∙◌, sym, ap, rules}
+use Rattle.std.proofs.Common.{◌∙◌, sym, ap}
 use Rattle.plain_cord.specs.declared.reply.Reply.TheVariants as replies
 use Rattle.plain_session.proofs.Shows.{shown-all}
 use Rattle.plain_session.proofs.queries.show.Goals as goal

@@ -1,5 +1,5 @@
 -- Bytes in front of a cord: too many, or none.
-use Rattle.std.proofs.Common.{◌≡◌, ◌+◌, ◌*◌, ◌≤◌, ◌++◌, length, arith, rules}
+use Rattle.std.proofs.Common.{◌++◌, arith}
 use Rattle.plain_cord.specs.Texts.{repeated}
 use Rattle.plain_session.specs.States.{state_of}
 use Rattle.plain_session.proofs.Grows.{grown-long, grown-same, length-in_front}

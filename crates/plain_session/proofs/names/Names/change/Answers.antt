@@ -1,7 +1,6 @@
 -- The edited cord is what the name stands for afterwards.
 use Rattle.std.proofs.Common.{◌≡◌, ap, sym, rules, Some}
 use Rattle.std.specs.Option.{option_map}
-use Rattle.plain_cord.specs.States.{SameNames, with_name}
 use Rattle.plain_session.specs.States.{state_of, environment_of}
 use Rattle.plain_session.proofs.Environments.{environment-updated, unchanged-names, edit-outcome}
 use Rattle.std.proofs.lemmas.Result.{IfOk-weaker, on_err_weaker}

@@ -1,5 +1,5 @@
 -- The name stands for the cord that was put in.
-use Rattle.std.proofs.Common.{◌≡◌, ◌∙◌, ap, rules}
+use Rattle.std.proofs.Common.{◌∙◌, ap, rules}
 use Rattle.plain_cord.specs.States.{with_name}
 use Rattle.plain_session.specs.States.{state_of, environment_of}
 use Rattle.plain_session.proofs.Environments.{environment-updated}
