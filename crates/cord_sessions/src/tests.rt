@@ -75,6 +75,16 @@ impl Dialogue {
         Ok(())
     }
 
+    // Adds a line for each command, with its answer behind `=>`.
+    fn add_lines(&mut self, lines: &str) -> Result<(), AllocError> {
+        for line in lines.lines() {
+            if let Some((command, answer)) = line.split_once(" => ") {
+                self.add(command, answer)?;
+            }
+        }
+        Ok(())
+    }
+
     // Runs the session, and holds its output against what is wanted.
     fn hold<R: Threads + Wait + Abort + Sync>(mut self, rt: &R, alloc: Global) -> Result<(), Fail> {
         self.script.push_str("end")?;
@@ -88,6 +98,12 @@ impl Dialogue {
 }
 
 const HELLO: &str = "cords 1\nsession a\nlet x \"ab\"\nappend x \"c\"\nsize x\nprint x\nend\n";
+
+const HEADER: &str = "refused at line 1: header\n";
+
+const TEXT: &str = "refused at line 3: text\n";
+
+const UNENDED: &str = "refused at line 3: unended\n";
 
 #[test]
 fn script_is_run_and_checked(rt: HostRuntime) -> Result<(), Fail> {
@@ -105,30 +121,10 @@ fn script_is_run_and_checked(rt: HostRuntime) -> Result<(), Fail> {
             "ok 1 sessions 0 commands\n",
             0,
         ),
-        (
-            "",
-            "refused at line 1: header\n",
-            "refused at line 1: header\n",
-            1,
-        ),
-        (
-            "cords 1\nsession a\nlet x \"ab\n",
-            "refused at line 3: text\n",
-            "refused at line 3: text\n",
-            1,
-        ),
-        (
-            "cords 1\nsession a\nlet x \"\\q\"\n",
-            "refused at line 3: text\n",
-            "refused at line 3: text\n",
-            1,
-        ),
-        (
-            "cords 1\nsession a\n",
-            "refused at line 3: unended\n",
-            "refused at line 3: unended\n",
-            1,
-        ),
+        ("", HEADER, HEADER, 1),
+        ("cords 1\nsession a\nlet x \"ab\n", TEXT, TEXT, 1),
+        ("cords 1\nsession a\nlet x \"\\q\"\n", TEXT, TEXT, 1),
+        ("cords 1\nsession a\n", UNENDED, UNENDED, 1),
     ] {
         for (word, wanted) in [("run", ran), ("check", checked)] {
             let mut source = source_of(rt.alloc(), script)?;
@@ -146,153 +142,120 @@ fn script_is_run_and_checked(rt: HostRuntime) -> Result<(), Fail> {
 #[test]
 fn commands_answer_as_byte_strings(rt: HostRuntime) -> Result<(), Fail> {
     let mut dialogue = Dialogue::new(rt.alloc())?;
-    for (command, answer) in [
-        ("let x \"0123456789abcdefghij\"", "ok"),
-        ("sub x 25 3 y", "ok"),
-        ("size y", "0"),
-        ("sub x 18 100 z", "ok"),
-        ("print z", "\"ij\""),
-        ("sub x 0 16 w", "ok"),
-        ("print w", "\"0123456789abcdef\""),
-        ("cutfront x 21", "! position 21 20"),
-        ("size x", "20"),
-        ("cutfront x 20", "ok"),
-        ("print x", "\"\""),
-        ("let x \"a\"*4083", "ok"),
-        ("append x \"b\"", "ok"),
-        ("at x 4082", "97"),
-        ("at x 4083", "98"),
-        ("at x 4084", "! position 4084 4084"),
-        ("append x \"c\"", "ok"),
-        ("find x \"\"", "0"),
-        ("find x \"ab\"", "4082"),
-        ("find x \"ca\"", "none"),
-        ("starts x \"aa\"", "yes"),
-        ("ends x \"abc\"", "yes"),
-        ("ends x \"bb\"", "no"),
-        ("let p \"\\x7f\"", "ok"),
-        ("let q \"\\x80\"", "ok"),
-        ("compare p q", "less"),
-        ("let p \"ab\"", "ok"),
-        ("let q \"abc\"", "ok"),
-        ("compare q p", "greater"),
-        ("let p \"a\"*20", "ok"),
-        ("let q \"a\"*19", "ok"),
-        ("append q \"a\"", "ok"),
-        ("setsum p 7", "ok"),
-        ("compare p q", "equal"),
-    ] {
-        dialogue.add(command, answer)?;
-    }
+    dialogue.add_lines(
+        r#"let x "0123456789abcdefghij" => ok
+sub x 25 3 y => ok
+size y => 0
+sub x 18 100 z => ok
+print z => "ij"
+sub x 0 16 w => ok
+print w => "0123456789abcdef"
+cutfront x 21 => ! position 21 20
+size x => 20
+cutfront x 20 => ok
+print x => ""
+let x "a"*4083 => ok
+append x "b" => ok
+at x 4082 => 97
+at x 4083 => 98
+at x 4084 => ! position 4084 4084
+append x "c" => ok
+find x "" => 0
+find x "ab" => 4082
+find x "ca" => none
+starts x "aa" => yes
+ends x "abc" => yes
+ends x "bb" => no
+let p "\x7f" => ok
+let q "\x80" => ok
+compare p q => less
+let p "ab" => ok
+let q "abc" => ok
+compare q p => greater
+let p "a"*20 => ok
+let q "a"*19 => ok
+append q "a" => ok
+setsum p 7 => ok
+compare p q => equal"#,
+    )?;
     dialogue.hold(&rt, rt.alloc())
 }
 
 #[test]
 fn sums_are_carried_and_lost(rt: HostRuntime) -> Result<(), Fail> {
     let mut dialogue = Dialogue::new(rt.alloc())?;
-    for (command, answer) in [
-        ("let x \"abc\"", "ok"),
-        ("setsum x 7", "ok"),
-        ("copy x y", "ok"),
-        ("append x \"\"", "ok"),
-        ("sum x", "sum 7"),
-        ("append x \"d\"", "ok"),
-        ("sum x", "none"),
-        ("cutfront y 0", "ok"),
-        ("sum y", "sum 7"),
-        ("sub y 0 3 z", "ok"),
-        ("sum z", "none"),
-        ("let e \"\"", "ok"),
-        ("setsum e 1", "! no bytes"),
-        ("join y e", "ok"),
-        ("sum y", "sum 7"),
-        ("cutback y 4", "! position 4 3"),
-        ("sum y", "sum 7"),
-        ("joinfront z y", "ok"),
-        ("sum z", "none"),
-        ("clear y", "ok"),
-        ("sum y", "none"),
-    ] {
-        dialogue.add(command, answer)?;
-    }
+    dialogue.add_lines(
+        r#"let x "abc" => ok
+setsum x 7 => ok
+copy x y => ok
+append x "" => ok
+sum x => sum 7
+append x "d" => ok
+sum x => none
+cutfront y 0 => ok
+sum y => sum 7
+sub y 0 3 z => ok
+sum z => none
+let e "" => ok
+setsum e 1 => ! no bytes
+join y e => ok
+sum y => sum 7
+cutback y 4 => ! position 4 3
+sum y => sum 7
+joinfront z y => ok
+sum z => none
+clear y => ok
+sum y => none"#,
+    )?;
     dialogue.hold(&rt, rt.alloc())
 }
 
 #[test]
 fn commands_answer_at_lengths_of_0_1_15_and_16(rt: HostRuntime) -> Result<(), Fail> {
-    let ok = ["ok"; 4];
-    let sum = ["none", "sum 7", "sum 7", "sum 7"];
-    let rows = [
-        ("size x", ["0", "1", "15", "16"]),
-        (
-            "print x",
-            [
-                "\"\"",
-                "\"a\"",
-                "\"abcdefghijklmno\"",
-                "\"abcdefghijklmnop\"",
-            ],
-        ),
-        ("at x 0", ["! position 0 0", "97", "97", "97"]),
-        (
-            "at x 14",
-            ["! position 14 0", "! position 14 1", "111", "111"],
-        ),
-        (
-            "at x 15",
-            [
-                "! position 15 0",
-                "! position 15 1",
-                "! position 15 15",
-                "112",
-            ],
-        ),
-        ("find x \"\"", ["0", "0", "0", "0"]),
-        ("find x \"a\"", ["none", "0", "0", "0"]),
-        ("find x \"op\"", ["none", "none", "none", "14"]),
-        ("starts x \"a\"", ["no", "yes", "yes", "yes"]),
-        ("ends x \"no\"", ["no", "no", "yes", "no"]),
-        ("compare x x", ["equal"; 4]),
-        ("setsum x 7", ["! no bytes", "ok", "ok", "ok"]),
-        ("sum x", sum),
-        ("copy x y", ok),
-        ("sum y", sum),
-        ("compare x y", ["equal"; 4]),
-        ("append y \"z\"", ok),
-        ("sum y", ["none"; 4]),
-        ("compare x y", ["less"; 4]),
-        ("prepend y \"z\"", ok),
-        ("size y", ["2", "3", "17", "18"]),
-        (
-            "cutfront y 16",
-            ["! position 16 2", "! position 16 3", "ok", "ok"],
-        ),
-        ("cutback y 1", ok),
-        ("print y", ["\"z\"", "\"za\"", "\"\"", "\"p\""]),
-        ("sub x 1 14 y", ok),
-        (
-            "print y",
-            ["\"\"", "\"\"", "\"bcdefghijklmno\"", "\"bcdefghijklmno\""],
-        ),
-        ("join y x", ok),
-        ("size y", ["0", "1", "29", "30"]),
-        ("joinfront y x", ok),
-        ("size y", ["0", "2", "44", "46"]),
-        ("clear y", ok),
-        ("size y", ["0"; 4]),
-        ("sum x", sum),
-    ];
-    let texts = [
-        "let x \"\"",
-        "let x \"a\"",
-        "let x \"abcdefghijklmno\"",
-        "let x \"abcdefghijklmnop\"",
-    ];
-    for column in 0..4 {
+    let lines = r#"size x => 0 | 1 | 15 | 16
+print x => "" | "a" | "abcdefghijklmno" | "abcdefghijklmnop"
+at x 0 => ! position 0 0 | 97 | 97 | 97
+at x 14 => ! position 14 0 | ! position 14 1 | 111 | 111
+at x 15 => ! position 15 0 | ! position 15 1 | ! position 15 15 | 112
+find x "" => 0 | 0 | 0 | 0
+find x "a" => none | 0 | 0 | 0
+find x "op" => none | none | none | 14
+starts x "a" => no | yes | yes | yes
+ends x "no" => no | no | yes | no
+compare x x => equal | equal | equal | equal
+setsum x 7 => ! no bytes | ok | ok | ok
+sum x => none | sum 7 | sum 7 | sum 7
+copy x y => ok | ok | ok | ok
+sum y => none | sum 7 | sum 7 | sum 7
+compare x y => equal | equal | equal | equal
+append y "z" => ok | ok | ok | ok
+sum y => none | none | none | none
+compare x y => less | less | less | less
+prepend y "z" => ok | ok | ok | ok
+size y => 2 | 3 | 17 | 18
+cutfront y 16 => ! position 16 2 | ! position 16 3 | ok | ok
+cutback y 1 => ok | ok | ok | ok
+print y => "z" | "za" | "" | "p"
+sub x 1 14 y => ok | ok | ok | ok
+print y => "" | "" | "bcdefghijklmno" | "bcdefghijklmno"
+join y x => ok | ok | ok | ok
+size y => 0 | 1 | 29 | 30
+joinfront y x => ok | ok | ok | ok
+size y => 0 | 2 | 44 | 46
+clear y => ok | ok | ok | ok
+size y => 0 | 0 | 0 | 0
+sum x => none | sum 7 | sum 7 | sum 7"#;
+    for (column, text) in ["", "a", "abcdefghijklmno", "abcdefghijklmnop"]
+        .iter()
+        .enumerate()
+    {
         let mut dialogue = Dialogue::new(rt.alloc())?;
-        dialogue.add(texts[column], "ok")?;
-        for (command, answers) in rows {
-            dialogue.add(command, answers[column])?;
+        let command = format!(in rt.alloc(); "let x \"{text}\"")?;
+        dialogue.add(command.as_str(), "ok")?;
+        for line in lines.lines() {
+            if let Some((command, answers)) = line.split_once(" => ") {
+                dialogue.add(command, answers.split(" | ").nth(column).unwrap_or(""))?;
+            }
         }
         dialogue.hold(&rt, rt.alloc())?;
     }
@@ -302,40 +265,38 @@ fn commands_answer_at_lengths_of_0_1_15_and_16(rt: HostRuntime) -> Result<(), Fa
 #[test]
 fn names_stand_for_their_own_cords(rt: HostRuntime) -> Result<(), Fail> {
     let mut dialogue = Dialogue::new(rt.alloc())?;
-    for (command, answer) in [
-        ("compare x y", "! unset x"),
-        ("sub x 0 1 y", "! unset x"),
-        ("print y", "! unset y"),
-        ("let x \"ab\"", "ok"),
-        ("setsum x 9", "ok"),
-        ("join x y", "! unset y"),
-        ("joinfront y x", "! unset y"),
-        ("cutback x 3", "! position 3 2"),
-        ("print x", "\"ab\""),
-        ("sum x", "sum 9"),
-        ("let x1 \"one\"", "ok"),
-        ("let x12 \"twelve\"", "ok"),
-        ("print x", "\"ab\""),
-        ("print x1", "\"one\""),
-        ("print x12", "\"twelve\""),
-        ("print x123", "! unset x123"),
-        ("join x x", "ok"),
-        ("print x", "\"abab\""),
-        ("joinfront x x", "ok"),
-        ("print x", "\"abababab\""),
-        ("compare x x", "equal"),
-        ("copy x x", "ok"),
-        ("sub x 1 2 x", "ok"),
-        ("print x", "\"ba\""),
-        ("cutback x 2", "ok"),
-        ("print x", "\"\""),
-        ("join x x", "ok"),
-        ("size x", "0"),
-        ("cutfront x 1", "! position 1 0"),
-        ("compare x x1", "less"),
-    ] {
-        dialogue.add(command, answer)?;
-    }
+    dialogue.add_lines(
+        r#"compare x y => ! unset x
+sub x 0 1 y => ! unset x
+print y => ! unset y
+let x "ab" => ok
+setsum x 9 => ok
+join x y => ! unset y
+joinfront y x => ! unset y
+cutback x 3 => ! position 3 2
+print x => "ab"
+sum x => sum 9
+let x1 "one" => ok
+let x12 "twelve" => ok
+print x => "ab"
+print x1 => "one"
+print x12 => "twelve"
+print x123 => ! unset x123
+join x x => ok
+print x => "abab"
+joinfront x x => ok
+print x => "abababab"
+compare x x => equal
+copy x x => ok
+sub x 1 2 x => ok
+print x => "ba"
+cutback x 2 => ok
+print x => ""
+join x x => ok
+size x => 0
+cutfront x 1 => ! position 1 0
+compare x x1 => less"#,
+    )?;
     for i in 0..64 {
         let command = format!(in rt.alloc(); "let x{i} \"{i}\"")?;
         dialogue.add(command.as_str(), "ok")?;

@@ -11,6 +11,8 @@ mod pieces;
 mod queries;
 mod replies;
 mod session;
+#[cfg(test)]
+mod tests;
 
 pub use cord::PlainCord;
 pub use edit::Edit;

@@ -1,0 +1,84 @@
+//! Each public call once, on small cords.
+ghost use Rattle.std.specs.Prelude.{◌*◌, ◌≤◌, length, IfOk};
+ghost use Rattle.plain_session.specs.Commands.{IsByteCommand};
+
+use super::*;
+use plain_cord::{Command, Items, Reply, Text};
+use std::alloc::{AllocError, Global};
+use std::test::Fail;
+
+fn is_done(reply: &Reply) -> bool {
+    matches!(reply, Reply::Done { .. })
+}
+
+#[test]
+fn cord_is_changed_and_copied(rt: HostRuntime) -> Result<(), Fail> {
+    let alloc = rt.alloc();
+    let mut cord = PlainCord::of_piece(alloc, b"ab", 2)?;
+    assert!(rt; is_done(&cord.change(Edit::SetSum(7))?));
+    assert_eq!(rt; cord.again(alloc)?.sum(), Some(7));
+    assert!(rt; is_done(&cord.change(Edit::Append(b"c", 3))?));
+    assert!(rt; is_done(&cord.change(Edit::Prepend(b"xy", 2))?));
+    assert_eq!(rt; cord.bytes(), b"xyxyababccc".as_slice());
+    assert_eq!(rt; cord.sum(), None);
+    assert_eq!(rt; cord.sub(alloc, 3, 4)?.bytes(), b"yaba".as_slice());
+    assert!(rt; is_done(&cord.change(Edit::CutFront(3))?));
+    assert!(rt; is_done(&cord.change(Edit::CutBack(6))?));
+    assert!(rt; is_done(&cord.change(Edit::Double)?));
+    assert_eq!(rt; cord.bytes(), b"yaya".as_slice());
+    assert!(rt; is_done(&cord.change(Edit::Clear)?));
+    assert_eq!(rt; cord.bytes().len(), PlainCord::empty(alloc).bytes().len());
+    Ok(())
+}
+
+#[test]
+fn names_keep_cords_apart(rt: HostRuntime) -> Result<(), Fail> {
+    let alloc = rt.alloc();
+    let mut names = Names::new(alloc);
+    names.set(b"a", PlainCord::of_piece(alloc, b"one", 1)?)?;
+    names.set(b"ab", PlainCord::of_piece(alloc, b"two", 1)?)?;
+    assert!(rt; is_done(&names.change(b"a", Edit::CutBack(1))?));
+    assert!(rt; is_done(&names.join(b"ab", b"a", true)?));
+    assert!(rt; is_done(&names.join(b"a", b"ab", false)?));
+    assert!(rt; names.exchange(b"abc", PlainCord::empty(alloc)).is_none());
+    assert!(rt; names.exchange(b"ab", PlainCord::empty(alloc)).is_some());
+    for (name, wanted) in [
+        (b"a".as_slice(), Some(b"onontwo".as_slice())),
+        (b"ab".as_slice(), Some(b"".as_slice())),
+        (b"abc".as_slice(), None),
+    ] {
+        assert_eq!(rt; names.find(name).map(|cord| cord.bytes()), wanted);
+    }
+    Ok(())
+}
+
+fn set(alloc: Global, name: &[u8], piece: &[u8], times: u32) -> Result<Command, AllocError>
+    requires { length piece.now * times ≤ 1048576 }
+    ensures { IfOk result (λ command. IsByteCommand command) }
+{
+    let a = Items::from_slice(alloc, name)?;
+    let piece = Items::from_slice(alloc, piece)?;
+    let text = Text { piece, times };
+    Ok(Command::Let { a, text })
+}
+
+#[test]
+fn commands_are_run(rt: HostRuntime) -> Result<(), Fail> {
+    let alloc = rt.alloc();
+    let first = set(alloc, b"x", b"ab", 3)?;
+    let second = set(alloc, b"x1", b"c", 1)?;
+    let join = Command::Join {
+        a: Items::from_slice(alloc, b"x")?,
+        b: Items::from_slice(alloc, b"x1")?,
+    };
+    let size = Command::Size {
+        a: Items::from_slice(alloc, b"x")?,
+    };
+    let mut names = Names::new(alloc);
+    assert!(rt; matches!(names.run(&join)?, Reply::Unset { .. }));
+    assert!(rt; is_done(&names.run(&first)?));
+    assert!(rt; is_done(&names.run(&second)?));
+    assert!(rt; is_done(&names.run(&join)?));
+    assert!(rt; matches!(names.run(&size)?, Reply::Number { value: 7 }));
+    Ok(())
+}
