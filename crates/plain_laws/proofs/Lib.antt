@@ -3,3 +3,4 @@ pub mod StayLaws
 pub mod OtherNames
 pub mod AppendLaws
 pub mod SumLaws
+pub mod CarriedSums

@@ -16,3 +16,9 @@ SameBytes names others = (a : List ℕ) → bytes_at names a ≡ bytes_at others
 abbrev pub AsksSum : Command → Type 0
 AsksSum (commands.Sum a) = Unit {0}
 AsksSum _ = ⊥
+
+-- the commands that may give a name a sum
+abbrev pub GivesSum : List ℕ → Command → Type 0
+GivesSum name (commands.SetSum a value) = a ≡ name
+GivesSum name (commands.Copy a b) = b ≡ name
+GivesSum name _ = ⊥
