@@ -1,0 +1,5 @@
+-- The lemmas of this crate.
+pub mod EdgeLaws
+pub mod TreeLaws
+pub mod TextLaws
+pub mod BodyLaws

@@ -1,0 +1,17 @@
+//! Edges: what a node of a cord's tree is, with its text, its shape and its skeleton, and which trees are well formed.
+//! An edge is plain data behind a shared pointer; who holds a node is said by the pool above.
+#![tactic(auto)]
+
+mod bytes;
+mod edge;
+mod laws;
+mod memory;
+#[cfg(test)]
+mod tests;
+
+pub use edge::{Body, Edge};
+pub use laws::{
+    branches_join_their_texts, branches_over_trees_are_trees, shapes_follow_edges,
+    texts_are_as_long_as_edges_say,
+};
+pub use memory::Memory;
