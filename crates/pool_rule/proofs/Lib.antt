@@ -1,0 +1,6 @@
+-- The lemmas of this crate.
+pub mod Worlds
+pub mod Holds
+pub mod Steps
+pub mod Allowed
+pub mod Tokens

@@ -1,0 +1,140 @@
+-- The first token, a token that is cut in two, and two that become one.
+use Rattle.std.proofs.Common.{◌≡◌, ◌≢◌, ⊎_elim, true, ℕ, zero, suc, ◌+◌, ◌^◌, ◌≤◌, List, [], ◌∷◌, ◌++◌, length, map, get_or, set, take, refl, sym, ◌∙◌, ap, subst, arith, length-append}
+use Rattle.std.proofs.lemmas.List.{map-set, map-append}
+use Rattle.std.proofs.Math.Numerals.{add-one}
+use mathlib.Core.Option.{some}
+use lib.ListN.{get_elem?}
+use Rattle.atomic_table.specs.Table.{State, opening, Splits, Joins}
+use Rattle.atomic_table.proofs.Lists.{set_else}
+use Rattle.node_forest.specs.Label.{Node}
+use Rattle.node_forest.proofs.Members.{occurs_split}
+use Rattle.count_core.specs.Views.{moving, staying}
+use Rattle.count_core.specs.Steps.{split, merge, Does, with_views, holds_at, zeroes}
+use Rattle.count_core.specs.Worlds.{IsSound}
+use Rattle.count_core.proofs.Moves.{step_sound}
+use Rattle.count_core.proofs.Runs.{start_sound}
+use Rattle.pool_rule.specs.Views.{View, blank, narrower, part_of, merged, spent}
+use Rattle.pool_rule.specs.Rules.{holds_of, world, rooms, Narrow, IsSane, AreSane, Ruled}
+use Rattle.pool_rule.proofs.Worlds.{at_lt, held_at, rooms_set, sane_set, sane_at, places_world}
+
+-- ---- at the start
+take-more_zeroes : (k : ℕ) → take k (zeroes (suc k)) ≡ zeroes k
+take-more_zeroes zero = refl
+take-more_zeroes (suc k) = ap (λ (ws : List ℕ). 0 ∷ ws) (take-more_zeroes k)
+
+take-zeroes : (k : ℕ) → take k (zeroes (k + 1)) ≡ zeroes k
+take-zeroes k = ap (λ (n : ℕ). take k (zeroes n)) (add-one k) ∙ take-more_zeroes k
+
+zero-at : (k n : ℕ) → get_or (zeroes k) n 0 ≡ 0
+zero-at zero n = refl
+zero-at (suc k) zero = refl
+zero-at (suc k) (suc n) = zero-at k n
+
+length-zeroes : (k : ℕ) → length (zeroes k) ≡ k
+length-zeroes zero = refl
+length-zeroes (suc k) = let r = length-zeroes k in omega arith
+
+pub sane_blank : (k room : ℕ) → IsSane k (blank room k)
+sane_blank k room = record { size = refl; roomy = omega arith; narrow = λ t o. absurd o }
+
+pub starts : {S : Type 0} (k : ℕ) (xs : List S) → Ruled k (opening (zeroes (k + 1)) xs (blank (2 ^ 24) k))
+starts k xs = record {
+  width = length-zeroes (k + 1);
+  sound = subst IsSound (λ i. record { words = sym (take-zeroes k) i; live = sym (zero-at (k + 1) k) i; views = [] ∷ [] }) (start_sound k 1);
+  sane = (sane_blank k (2 ^ 24), tt);
+  rooms = omega arith;
+}
+
+-- ---- tokens cut in two
+staying-none : (i : ℕ) (hs : List Node) → staying [] i hs ≡ hs
+staying-none i [] = refl
+staying-none i (t ∷ ts) = ap (λ (z : List Node). t ∷ z) (staying-none (i + 1) ts)
+
+moving-none : (i : ℕ) (hs : List Node) → moving [] i hs ≡ []
+moving-none i [] = refl
+moving-none i (t ∷ ts) = moving-none (i + 1) ts
+
+rooms-append : (a : List View) (w : View) → rooms (a ++ w ∷ []) ≡ rooms a + w.room
+rooms-append [] w = omega arith
+rooms-append (v ∷ vs) w = let r = rooms-append vs w in omega arith
+
+sane_append : (k : ℕ) (a : List View) (w : View) → AreSane k a → IsSane k w → AreSane k (a ++ w ∷ [])
+sane_append k [] w r s = (s, tt)
+sane_append k (v ∷ vs) w r s = (r.0, sane_append k vs w r.1 s)
+
+module _ {S : Type 0} (k id : ℕ) (v : View) where
+  split_table : State S View → ℕ → State S View
+  split_table s room = record { words = s.words; homes = s.homes; views = set s.views id (narrower room v) ++ part_of room v ∷ [] }
+
+  pub split_does : (s : State S View) (room : ℕ) → get_elem? s.views id ≡ some v
+      → Does (split id []) (world k s) true (world k record { words = s.words; homes = s.homes; views = set s.views id (narrower room v) ++ part_of room v ∷ [] })
+  split_does s room at =
+      let holds = held_at s.views id v at in
+      let mine : holds_at (world k s) id ≡ v.holds = holds in
+      let stay : v.holds ≡ staying [] 0 (holds_at (world k s) id) = sym mine ∙ sym (staying-none 0 (holds_at (world k s) id)) in
+      let move : [] ≡ moving [] 0 (holds_at (world k s) id) = sym (moving-none 0 (holds_at (world k s) id)) in (
+        record { view = (let a = at_lt s.views id v at in let p = places_world k s in omega arith); different = tt; below = tt },
+        ap (with_views (world k s)) (map-append holds_of (set s.views id (narrower room v)) (part_of room v ∷ [])
+            ∙ ap (λ (z : List (List Node)). z ++ [] ∷ []) (map-set holds_of s.views id (narrower room v))
+            ∙ (λ i. set (map holds_of s.views) id (stay i) ++ move i ∷ [])),
+      )
+
+  pub splits_allowed : (room : ℕ) → length v.holds + room ≤ v.room → Splits {S = S} (Ruled k) id v (narrower room v) (part_of room v)
+  splits_allowed room fits s r at =
+      let mine = sane_at k s.views id v r.sane at in
+      let a = rooms_set s.views id v (narrower room v) at in
+      let b = rooms-append (set s.views id (narrower room v)) (part_of room v) in
+      let d = r.rooms in
+      let does = split_does s room at in
+      record {
+        width = r.width;
+        sound = subst IsSound (sym does.1) (step_sound (split id []) (world k s) r.sound does.0);
+        sane = sane_append k (set s.views id (narrower room v)) (part_of room v)
+            (sane_set k s.views id (narrower room v) r.sane (record { size = mine.size; roomy = omega arith; narrow = mine.narrow }))
+            (record { size = mine.size; roomy = omega arith; narrow = λ t o. absurd o });
+        rooms = omega arith;
+      }
+
+-- ---- two tokens in one
+set_swap : {A : Type 0} (l : List A) (i j : ℕ) (a b : A) → i ≢ j → set (set l i a) j b ≡ set (set l j b) i a
+set_swap [] i j a b ne = refl
+set_swap (x ∷ xs) zero zero a b ne = absurd (ne refl)
+set_swap (x ∷ xs) zero (suc j) a b ne = refl
+set_swap (x ∷ xs) (suc i) zero a b ne = refl
+set_swap (x ∷ xs) (suc i) (suc j) a b ne = ap (λ (ys : List _). x ∷ ys) (set_swap xs i j a b (λ e. ne (ap suc e)))
+
+narrow_both : (a b : List Node) → Narrow a → Narrow b → Narrow (a ++ b)
+narrow_both a b p q t h = ⊎_elim (λ l. p t l) (λ r. q t r) (occurs_split t a b h)
+
+pub joins_allowed : {S : Type 0} (k id other : ℕ) (v w : View) → Joins {S = S} (Ruled k) id v other w (merged v w) (spent w)
+joins_allowed k id other v w s r at apart at' =
+    let b : View = merged v w in
+    let z : View = spent w in
+    let there : get_elem? s.views other ≡ some w = sym (set_else s.views id other b apart) ∙ at' in
+    let mine = sane_at k s.views id v r.sane at in
+    let theirs = sane_at k s.views other w r.sane there in
+    let long = length-append v.holds w.holds in
+    let one = mine.roomy in
+    let two = theirs.roomy in
+    let x = rooms_set s.views id v b at in
+    let y = rooms_set (set s.views id b) other w z at' in
+    let d = r.rooms in
+    let ne : id ≢ other = (λ e. apart (sym e)) in
+    let p = places_world k s in
+    let i = at_lt s.views id v at in
+    let j = at_lt s.views other w there in
+    let hv = held_at s.views id v at in
+    let hw = held_at s.views other w there in
+    let views : map holds_of (set (set s.views id b) other z) ≡ set (set (map holds_of s.views) other []) id (holds_at (world k s) id ++ holds_at (world k s) other) =
+    map-set holds_of (set s.views id b) other z
+    ∙ ap (λ (l : List (List Node)). set l other []) (map-set holds_of s.views id b)
+    ∙ set_swap (map holds_of s.views) id other (v.holds ++ w.holds) [] ne
+    ∙ (λ q. set (set (map holds_of s.views) other []) id (sym hv q ++ sym hw q)) in
+    record {
+      width = r.width;
+      sound = subst IsSound (ap (with_views (world k s)) (sym views)) (step_sound (merge id other) (world k s) r.sound (record { view = omega arith; second = omega arith; different = ne }));
+      sane = sane_set k (set s.views id b) other z
+          (sane_set k s.views id b r.sane (record { size = mine.size; roomy = omega arith; narrow = narrow_both v.holds w.holds mine.narrow theirs.narrow }))
+          (record { size = theirs.size; roomy = omega arith; narrow = λ t o. absurd o });
+      rooms = omega arith;
+    }

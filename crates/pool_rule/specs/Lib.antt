@@ -1,0 +1,5 @@
+-- The definitions of this crate.
+pub mod Views
+pub mod Rules
+pub mod Plays
+pub mod Steps

@@ -1,0 +1,42 @@
+-- What holds of the pool's table between any two steps: its words, its word of live passes and the holds of its tokens are a world in which each
+-- word is the number of its holders.
+use Rattle.std.specs.Prelude.{◌≡◌, ℕ, ◌+◌, ◌^◌, ◌≤◌, List, [], ◌∷◌, length, map, take, slice_index}
+use Rattle.atomic_table.specs.Table.{State}
+use Rattle.node_forest.specs.Forest.{children}
+use Rattle.node_forest.specs.Label.{Node}
+use Rattle.node_forest.specs.Members.{Occurs}
+use Rattle.count_core.specs.Steps as core
+use Rattle.count_core.specs.Worlds.{IsSound}
+use Rattle.pool_rule.specs.Views.{View}
+
+abbrev pub holds_of : View → List Node
+holds_of v = v.holds
+
+-- the world of a table with so many numbers: their words, then the word of live passes
+abbrev pub world : {S : Type 0} → ℕ → State S View → core.State
+world k s = record { words = take k s.words; live = slice_index s.words k; views = map holds_of s.views }
+
+abbrev pub rooms : List View → ℕ
+rooms [] = 0
+rooms (v ∷ vs) = v.room + rooms vs
+
+-- no node in the trees has more than 6 edges
+abbrev pub Narrow : List Node → Type 0
+Narrow trees = (t : Node) → Occurs t trees → length (children t) ≤ 6
+
+-- a token knows how many numbers there are, has room for its holds, and holds no node with more than 6 edges
+pub record IsSane (k : ℕ) (v : View) : Type 0 where
+  pub size : v.size ≡ k
+  pub roomy : length v.holds ≤ v.room
+  pub narrow : Narrow v.holds
+
+abbrev pub AreSane : ℕ → List View → Type 0
+AreSane k [] = Unit {0}
+AreSane k (v ∷ vs) = IsSane k v × AreSane k vs
+
+-- the rule of a table with so many numbers
+pub record Ruled {S : Type 0} (k : ℕ) (s : State S View) : Type 0 where
+  pub width : length s.words ≡ k + 1
+  pub sound : IsSound (world k s)
+  pub sane : AreSane k s.views
+  pub rooms : rooms s.views ≡ 2 ^ 24

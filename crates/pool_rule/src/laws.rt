@@ -1,0 +1,40 @@
+//! What the table's rule promises, for slots of any type.
+ghost use Rattle.std.specs.Prelude.{◌≡◌, ℕ, ◌+◌, ◌-◌, ◌*◌, ◌%◌, ◌^◌, ◌<◌, ◌≤◌, ◌==◌, List, ◌++◌, length};
+ghost use mathlib.Core.Option.{some, none};
+ghost use lib.ListN.{get_elem?};
+ghost use prog.Atomic.{either};
+ghost use Rattle.atomic_table.specs.Table.{State, Me, step, Allows, Splits, Joins, opening};
+ghost use Rattle.node_forest.specs.Forest.{children};
+ghost use Rattle.node_forest.specs.Label.{Node, number};
+ghost use Rattle.node_forest.specs.Members.{In, Occurs};
+ghost use Rattle.count_core.specs.Views.{AreHeld, without};
+ghost use Rattle.count_core.specs.Steps.{zeroes};
+ghost use Rattle.pool_rule.specs.Views.{View, blank, taking, narrower, part_of, merged, spent};
+ghost use Rattle.pool_rule.specs.Rules.{Ruled};
+ghost use Rattle.pool_rule.specs.Plays.{taken, shared, left, looked};
+ghost use Rattle.pool_rule.specs.Steps.{AreCoreSteps};
+
+/// A pool whose words are 0 and whose one token holds nothing.
+pub fn pools_start_ruled<S>()
+    ensures { (k : ℕ) (slots : List S) → Ruled k (opening (zeroes (k + 1)) slots (blank (2 ^ 24) k)) }
+{}
+
+/// On the world of any table under the rule each step of a token is the count rule's step of the same name.
+pub fn steps_are_the_count_rules<S>()
+    ensures { (k : ℕ) (s : State S View) (id : ℕ) (v : View) (c : List (ℕ × S)) → Ruled k s → get_elem? s.views id ≡ some v → AreCoreSteps k s id v c }
+{}
+
+/// Whatever other threads do meanwhile, these steps keep the rule and tell the token what it knows then: a compare and exchange of
+/// 0 by 1, an addition of 1, a subtraction of 1, and a load.
+pub fn steps_keep_the_rule<S>()
+    ensures take { (k slots id : ℕ) (me : Me S View) (t : Node) → number t < k → AreHeld (children t) me.0.holds → length (children t) ≤ 6 → length (taking t me.0).holds ≤ me.0.room → Allows (Ruled k) slots id me (number t) (λ n. either (n == 0) 1 n) (taken t (step slots (number t) 0 1 none) me) }
+    ensures share { (k slots id : ℕ) (me : Me S View) (t : Node) → k * 6 + 2 ^ 24 < 2 ^ 32 → Occurs t me.0.holds → length me.0.holds < me.0.room → Allows (Ruled k) slots id me (number t) (λ n. (n + 1) % 2 ^ 64) (shared t (step slots (number t) 1 0 none) me) }
+    ensures leave { (k slots id : ℕ) (me : Me S View) (t : Node) → In t me.0.holds → length (without (number t) me.0.holds ++ children t) ≤ me.0.room → Allows (Ruled k) slots id me (number t) (λ n. (n + (2 ^ 64 - 1)) % 2 ^ 64) (left t (step slots (number t) 1 0 none) me) }
+    ensures look { (k slots id : ℕ) (me : Me S View) (t : Node) → Occurs t me.0.holds → Allows (Ruled k) slots id me (number t) (λ n. n) (looked t (step slots (number t) 0 0 none) me) }
+{}
+
+/// A token with room of its own is split from another, and a token's holds go behind another's.
+pub fn tokens_divide<S>()
+    ensures split { (k id room : ℕ) (v : View) → length v.holds + room ≤ v.room → Splits {S = S} (Ruled k) id v (narrower room v) (part_of room v) }
+    ensures merge { (k id other : ℕ) (v w : View) → Joins {S = S} (Ruled k) id v other w (merged v w) (spent w) }
+{}
