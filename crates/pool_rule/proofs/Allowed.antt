@@ -1,5 +1,5 @@
 -- Which steps the rule allows, whatever the table is when they come.
-use Rattle.std.proofs.Common.{◌≡◌, ℕ, ◌+◌, ◌-◌, ◌*◌, ◌%◌, ◌^◌, ◌<◌, ◌≤◌, Bool, eqb, eq-eqb, ne_eqb, [], ◌∷◌, ◌++◌, length, get_or, refl, sym, ap, subst, arith, length-append}
+use Rattle.std.proofs.Common.{◌≡◌, inl, inr, ℕ, ◌+◌, ◌-◌, ◌*◌, ◌%◌, ◌^◌, ◌<◌, ◌≤◌, Bool, eqb, eq-eqb, ne_eqb, [], ◌∷◌, ◌++◌, length, get_or, refl, sym, ap, subst, arith, length-append}
 use Rattle.std.specs.Prelude.{if◌then◌else◌}
 use mathlib.Core.Logic.{dite}
 use mathlib.Core.Option.{none, some}
@@ -17,6 +17,7 @@ use Rattle.pool_rule.specs.Views.{View, taking, noting, tried, sharing, leaving}
 use Rattle.pool_rule.specs.Rules.{IsSane, Ruled}
 use Rattle.pool_rule.specs.Plays.{Told, taken, shared, left, looked}
 use Rattle.pool_rule.proofs.Worlds.{sane_at}
+use Rattle.pool_rule.proofs.Taken.{among_left, among_right}
 use Rattle.pool_rule.proofs.Holds.{narrow_taken, narrow_shared, narrow_left, length-left}
 use Rattle.pool_rule.proofs.Steps.{low, same_held, word_some, word_low, take_does, share_does, leave_does, look_does, idle_world, does_ruled, idle_ruled}
 
@@ -40,7 +41,8 @@ module _ {S : Type 0} (k : ℕ) where
       let is_f : f n ≡ 1 = ap (λ (b : Bool). either b 1 n) (eq-eqb n 0 free) in
       let ruled : Ruled k (stepped s (number t) (f n) id me.1 w keeps) =
       subst (λ (z : ℕ). Ruled k (stepped s (number t) z id me.1 w keeps)) (sym is_f)
-      (does_ruled k s id me.0 r at (take id (number t) t) (number t) 1 w me.1 (take_does k s id me.0 r at t me.1 l free held) sane refl) in
+      (does_ruled k s id me.0 r at (take id (number t) t) (number t) 1 w me.1 (take_does k s id me.0 r at t me.1 l free held) sane refl l
+      (λ j a. among_left j me.0.taken (number t ∷ []) a) (λ _. inr (among_right (number t) me.0.taken (number t ∷ []) (inl refl))) refl) in
       let is : tried n t me.0 ≡ w = ap (λ (b : Bool). if b then w else noting (number t) me.0) (eq-eqb n 0 free) in
       (w, keeps, tt, ruled, subst (λ (z : View). Told z me (w, me.1)) (sym is) (told s id me (w, me.1) w r at refl refl sane)))
       (λ full.
@@ -48,7 +50,7 @@ module _ {S : Type 0} (k : ℕ) where
       let sane : IsSane k w = record { size = mine.size; roomy = mine.roomy; narrow = mine.narrow } in
       let is_f : f n ≡ n = ap (λ (b : Bool). either b 1 n) (ne_eqb n 0 full) in
       let ruled : Ruled k (stepped s (number t) (f n) id me.1 w keeps) =
-      idle_ruled k s id me.0 r at (number t) (f n) w me.1 (idle_world k s id me.0 r at (number t) (f n) w me.1 l is_f refl) sane refl in
+      idle_ruled k s id me.0 r at (number t) (f n) w me.1 (idle_world k s id me.0 r at (number t) (f n) w me.1 l is_f refl) sane refl l full refl refl in
       let is : tried n t me.0 ≡ w = ap (λ (b : Bool). if b then taking t me.0 else w) (ne_eqb n 0 full) in
       (w, keeps, tt, ruled, subst (λ (z : View). Told z me (w, me.1)) (sym is) (told s id me (w, me.1) w r at refl refl sane)))
 
@@ -58,6 +60,7 @@ module _ {S : Type 0} (k : ℕ) where
       let n : ℕ = get_or s.words (number t) 0 in
       let m : ℕ = (n + 1) % 2 ^ 64 in
       let fits = word_low k s id me.0 r at small (number t) (low k s id me.0 r at t here) in
+      let held = word_some k s id me.0 r at t here in
       let up : m ≡ n + 1 = omega arith in
       let w : View = sharing t me.0 in
       let mine = sane_at k s.views id me.0 r.sane at in
@@ -66,7 +69,7 @@ module _ {S : Type 0} (k : ℕ) where
         w,
         keeps,
         tt,
-        does_ruled k s id me.0 r at (share id (number t)) (number t) m w me.1 (share_does k s id me.0 r at t me.1 m small here up) sane refl,
+        does_ruled k s id me.0 r at (share id (number t)) (number t) m w me.1 (share_does k s id me.0 r at t me.1 m small here up) sane refl (low k s id me.0 r at t here) (λ j a. a) (λ _. inl (λ e. absurd (omega arith))) refl,
         told s id me (w, me.1) w r at refl refl sane,
       )
 
@@ -84,7 +87,7 @@ module _ {S : Type 0} (k : ℕ) where
         w,
         keeps,
         tt,
-        does_ruled k s id me.0 r at (leave id (number t)) (number t) m w me.1 (leave_does k s id me.0 r at t me.1 m here down) sane refl,
+        does_ruled k s id me.0 r at (leave id (number t)) (number t) m w me.1 (leave_does k s id me.0 r at t me.1 m here down) sane refl (low k s id me.0 r at t (root_occurs t me.0.holds here)) (λ j a. a) (λ _. inl (λ e. absurd (omega arith))) refl,
         told s id me (w, me.1) w r at refl refl sane,
       )
 
@@ -94,10 +97,11 @@ module _ {S : Type 0} (k : ℕ) where
       let n : ℕ = get_or s.words (number t) 0 in
       let mine = sane_at k s.views id me.0 r.sane at in
       let l = low k s id me.0 r at t here in
+      let held = word_some k s id me.0 r at t here in
       let size = mine.size in (
         me.0,
         keeps,
         tt,
-        does_ruled k s id me.0 r at (look id (number t)) (number t) n me.0 me.1 (look_does k s id me.0 r at t me.1 here) mine refl,
+        does_ruled k s id me.0 r at (look id (number t)) (number t) n me.0 me.1 (look_does k s id me.0 r at t me.1 here) mine refl l (λ j a. a) (λ _. inl (λ e. absurd (omega arith))) refl,
         (told s id me me me.0 r at refl refl mine, omega arith),
       )

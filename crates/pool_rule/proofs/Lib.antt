@@ -1,6 +1,8 @@
 -- The lemmas of this crate.
 pub mod Worlds
+pub mod Taken
 pub mod Holds
 pub mod Steps
 pub mod Allowed
 pub mod Tokens
+pub mod Ends

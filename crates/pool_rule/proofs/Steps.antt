@@ -1,5 +1,5 @@
 -- Each step of a token is a step of the count rule's world, and keeps the rule.
-use Rattle.std.proofs.Common.{◌≡◌, ℕ, ◌+◌, ◌-◌, ◌*◌, ◌^◌, ◌<◌, ◌≤◌, true, List, [], ◌∷◌, ◌++◌, length, map, get_or, refl, sym, ◌∙◌, ap, subst, arith, length-set}
+use Rattle.std.proofs.Common.{◌≡◌, ◌≢◌, ◌⊎◌, inl, inr, ⊎_elim, ℕ, ◌+◌, ◌-◌, ◌*◌, ◌^◌, ◌<◌, ◌≤◌, true, List, [], ◌∷◌, ◌++◌, length, map, get_or, refl, sym, ◌∙◌, ap, subst, arith, length-set}
 use Rattle.std.specs.Prelude.{Option, Some, IsSome, option_to_list}
 use mathlib.Core.Option.{some}
 use lib.ListN.{get_elem?}
@@ -16,7 +16,8 @@ use Rattle.count_core.proofs.Around.{seen_occurs}
 use Rattle.count_core.proofs.Counting.{has_holder}
 use Rattle.count_core.proofs.Moves.{step_sound, sound_of}
 use Rattle.pool_rule.specs.Views.{View, taking, sharing, leaving}
-use Rattle.pool_rule.specs.Rules.{holds_of, world, IsSane, Ruled}
+use Rattle.pool_rule.specs.Rules.{holds_of, world, Among, IsTaken, IsSane, Ruled}
+use Rattle.pool_rule.proofs.Taken.{among_split, taken_set, full_set, used_set}
 use Rattle.pool_rule.proofs.Worlds.{at_lt, held_at, length-rooms, narrow-roots, rooms_set, sane_set, world_stepped, word_world, width_world, places_world, word_again}
 use Rattle.pool_rule.specs.Steps.{AreCoreSteps}
 use Rattle.pool_rule.proofs.Holds.{first_only, holders_le}
@@ -140,21 +141,35 @@ module _ {S : Type 0} (k : ℕ) (s : State S View) (id : ℕ) (v : View) (r : Ru
       )
 
   -- ---- what keeps the rule
-  pub does_ruled : (x : Step) (n m : ℕ) (w : View) (c : List (ℕ × S)) → Does x (world k s) true (world k (stepped s n m id c w keeps)) → IsSane k w → w.room ≡ v.room → Ruled k (stepped s n m id c w keeps)
-  does_ruled x n m w c does sane room = record {
+  pub does_ruled : (x : Step) (n m : ℕ) (w : View) (c : List (ℕ × S)) → Does x (world k s) true (world k (stepped s n m id c w keeps)) → IsSane k w → w.room ≡ v.room
+      → n < k → ((j : ℕ) → Among j v.taken → Among j w.taken) → (m ≢ 0 → (get_or s.words n 0 ≢ 0) ⊎ Among n w.taken) → w.full ≡ v.full → Ruled k (stepped s n m id c w keeps)
+  does_ruled x n m w c does sane room l keep some_ full = record {
     width = length-set s.words n m ∙ r.width;
     sound = subst IsSound (sym does.1) (step_sound x (world k s) r.sound does.0);
     sane = sane_set k s.views id w r.sane sane;
     rooms = let q = rooms_set s.views id v w at in let d = r.rooms in omega arith;
+    used = used_set s.views id v w at k s.words n m (let a = r.width in omega arith) keep some_ r.used;
+    full = λ j u. ⊎_elim (λ a. taken_set s.views id v w at j (keep j) (r.full j a)) (λ b. absurd b)
+        (full_set s.views id v w at {X = ⊥} j (λ a. inl (subst (λ (z : List ℕ). Among j z) full a)) u);
   }
 
-  pub idle_ruled : (n m : ℕ) (w : View) (c : List (ℕ × S)) → world k (stepped s n m id c w keeps) ≡ world k s → IsSane k w → w.room ≡ v.room → Ruled k (stepped s n m id c w keeps)
-  idle_ruled n m w c same sane room = record {
+  pub idle_ruled : (n m : ℕ) (w : View) (c : List (ℕ × S)) → world k (stepped s n m id c w keeps) ≡ world k s → IsSane k w → w.room ≡ v.room
+      → n < k → get_or s.words n 0 ≢ 0 → w.taken ≡ v.taken → w.full ≡ v.full ++ n ∷ [] → Ruled k (stepped s n m id c w keeps)
+  idle_ruled n m w c same sane room l some_ taken full = record {
     width = length-set s.words n m ∙ r.width;
     sound = subst IsSound (sym same) r.sound;
     sane = sane_set k s.views id w r.sane sane;
     rooms = let q = rooms_set s.views id v w at in let d = r.rooms in omega arith;
+    used = used_set s.views id v w at k s.words n m (let a = r.width in omega arith) keep (λ _. inl some_) r.used;
+    full = λ j u. taken_set s.views id v w at j (keep j) (⊎_elim (r.full j) (λ b. b)
+        (full_set s.views id v w at {X = IsTaken j s.views} j (λ a. from j (among_split j v.full (n ∷ []) (subst (λ (z : List ℕ). Among j z) full a))) u));
   }
+    where
+      keep : (j : ℕ) → Among j v.taken → Among j w.taken
+      keep j a = subst (λ (z : List ℕ). Among j z) (sym taken) a
+
+      from : (j : ℕ) → Among j v.full ⊎ Among j (n ∷ []) → Among j v.full ⊎ IsTaken j s.views
+      from j h = ⊎_elim (λ a. inl a) (λ b. ⊎_elim (λ e. inr (subst (λ (z : ℕ). IsTaken z s.views) (sym e) (r.used n l some_))) (λ x. absurd x) b) h
 
   pub core_steps : (c : List (ℕ × S)) → AreCoreSteps k s id v c
   core_steps c = record {

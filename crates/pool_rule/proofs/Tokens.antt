@@ -1,11 +1,13 @@
 -- The first token, a token that is cut in two, and two that become one.
-use Rattle.std.proofs.Common.{◌≡◌, ◌≢◌, ⊎_elim, true, ℕ, zero, suc, ◌+◌, ◌^◌, ◌≤◌, List, [], ◌∷◌, ◌++◌, length, map, get_or, set, take, refl, sym, ◌∙◌, ap, subst, arith, length-append}
+use Rattle.std.proofs.Common.{◌≡◌, ◌≢◌, inl, ⊎_elim, true, ℕ, zero, suc, ◌+◌, ◌^◌, ◌≤◌, List, [], ◌∷◌, ◌++◌, length, map, get_or, set, take, refl, sym, ◌∙◌, ap, subst, arith, length-append}
 use Rattle.std.proofs.lemmas.List.{map-set, map-append}
 use Rattle.std.proofs.Math.Numerals.{add-one}
 use mathlib.Core.Option.{some}
 use lib.ListN.{get_elem?}
 use Rattle.atomic_table.specs.Table.{State, opening, Splits, Joins}
-use Rattle.atomic_table.proofs.Lists.{set_else}
+use mathlib.Core.Logic.{dite}
+use native.Mathlib.Decide.{ℕ_discrete}
+use Rattle.atomic_table.proofs.Lists.{at_set, set_here, set_else}
 use Rattle.node_forest.specs.Label.{Node}
 use Rattle.node_forest.proofs.Members.{occurs_split}
 use Rattle.count_core.specs.Views.{moving, staying}
@@ -14,7 +16,8 @@ use Rattle.count_core.specs.Worlds.{IsSound}
 use Rattle.count_core.proofs.Moves.{step_sound}
 use Rattle.count_core.proofs.Runs.{start_sound}
 use Rattle.pool_rule.specs.Views.{View, blank, narrower, part_of, merged, spent}
-use Rattle.pool_rule.specs.Rules.{holds_of, world, rooms, Narrow, IsSane, AreSane, Ruled}
+use Rattle.pool_rule.specs.Rules.{holds_of, world, rooms, Among, IsTaken, IsFull, Narrow, IsSane, AreSane, Ruled}
+use Rattle.pool_rule.proofs.Taken.{among_left, among_right, among_split, view_at, taken_set, full_set, taken_longer, full_longer, full_nothing}
 use Rattle.pool_rule.proofs.Worlds.{at_lt, held_at, rooms_set, sane_set, sane_at, places_world}
 
 -- ---- at the start
@@ -43,6 +46,8 @@ starts k xs = record {
   sound = subst IsSound (λ i. record { words = sym (take-zeroes k) i; live = sym (zero-at (k + 1) k) i; views = [] ∷ [] }) (start_sound k 1);
   sane = (sane_blank k (2 ^ 24), tt);
   rooms = omega arith;
+  used = λ n l not_zero. absurd (not_zero (zero-at (k + 1) n));
+  full = λ n u. absurd (full_nothing n (full_longer [] (blank (2 ^ 24) k) n refl u));
 }
 
 -- ---- tokens cut in two
@@ -63,9 +68,6 @@ sane_append k [] w r s = (s, tt)
 sane_append k (v ∷ vs) w r s = (r.0, sane_append k vs w r.1 s)
 
 module _ {S : Type 0} (k id : ℕ) (v : View) where
-  split_table : State S View → ℕ → State S View
-  split_table s room = record { words = s.words; homes = s.homes; views = set s.views id (narrower room v) ++ part_of room v ∷ [] }
-
   pub split_does : (s : State S View) (room : ℕ) → get_elem? s.views id ≡ some v
       → Does (split id []) (world k s) true (world k record { words = s.words; homes = s.homes; views = set s.views id (narrower room v) ++ part_of room v ∷ [] })
   split_does s room at =
@@ -93,7 +95,13 @@ module _ {S : Type 0} (k id : ℕ) (v : View) where
             (sane_set k s.views id (narrower room v) r.sane (record { size = mine.size; roomy = omega arith; narrow = mine.narrow }))
             (record { size = mine.size; roomy = omega arith; narrow = λ t o. absurd o });
         rooms = omega arith;
+        used = λ n l some_. later n (r.used n l some_);
+        full = λ n u. later n (⊎_elim (λ a. r.full n a) (λ b. absurd b)
+            (full_set s.views id v (narrower room v) at {X = ⊥} n (λ a. inl a) (full_longer (set s.views id (narrower room v)) (part_of room v) n refl u)));
       }
+    where
+      later : (n : ℕ) → IsTaken n s.views → IsTaken n (set s.views id (narrower room v) ++ part_of room v ∷ [])
+      later n t = taken_longer (set s.views id (narrower room v)) (part_of room v ∷ []) n (taken_set s.views id v (narrower room v) at n (λ a. a) t)
 
 -- ---- two tokens in one
 set_swap : {A : Type 0} (l : List A) (i j : ℕ) (a b : A) → i ≢ j → set (set l i a) j b ≡ set (set l j b) i a
@@ -105,6 +113,31 @@ set_swap (x ∷ xs) (suc i) (suc j) a b ne = ap (λ (ys : List _). x ∷ ys) (se
 
 narrow_both : (a b : List Node) → Narrow a → Narrow b → Narrow (a ++ b)
 narrow_both a b p q t h = ⊎_elim (λ l. p t l) (λ r. q t r) (occurs_split t a b h)
+
+-- what either token took, the first has taken now
+joined_taken : (views : List View) (id other : ℕ) (v w : View) → get_elem? views id ≡ some v → get_elem? views other ≡ some w → id ≢ other → (n : ℕ) → IsTaken n views
+    → IsTaken n (set (set views id (merged v w)) other (spent w))
+joined_taken views id other v w at there ne n t =
+    dite (ℕ_discrete t.id id)
+    (λ e. here (among_left n v.taken w.taken (subst (λ (z : View). Among n z.taken) (view_at views t.id id t.view v t.at at e) t.among)))
+    (λ a. dite (ℕ_discrete t.id other)
+    (λ e. here (among_right n v.taken w.taken (subst (λ (z : View). Among n z.taken) (view_at views t.id other t.view w t.at there e) t.among)))
+    (λ b. record { id = t.id; view = t.view; at = set_else (set views id (merged v w)) other t.id (spent w) b ∙ (set_else views id t.id (merged v w) a ∙ t.at); among = t.among }))
+  where
+    here : Among n (v.taken ++ w.taken) → IsTaken n (set (set views id (merged v w)) other (spent w))
+    here h = record { id = id; view = merged v w; at = set_else (set views id (merged v w)) other id (spent w) ne ∙ set_here views id (merged v w) (at_lt views id v at); among = h }
+
+joined_full : (views : List View) (id other : ℕ) (v w : View) → get_elem? views id ≡ some v → get_elem? views other ≡ some w → (n : ℕ)
+    → IsFull n (set (set views id (merged v w)) other (spent w)) → IsFull n views
+joined_full views id other v w at there n u =
+    ⊎_elim
+    (λ h. absurd (subst (λ (z : View). Among n z.full) (sym h.1) u.among))
+    (λ h. ⊎_elim
+    (λ g. ⊎_elim (λ a. record { id = id; view = v; at = at; among = a }) (λ b. record { id = other; view = w; at = there; among = b })
+    (among_split n v.full w.full (subst (λ (z : View). Among n z.full) (sym g.1) u.among)))
+    (λ g. record { id = u.id; view = u.view; at = g.1; among = u.among })
+    (at_set views id u.id (merged v w) u.view h.1))
+    (at_set (set views id (merged v w)) other u.id (spent w) u.view u.at)
 
 pub joins_allowed : {S : Type 0} (k id other : ℕ) (v w : View) → Joins {S = S} (Ruled k) id v other w (merged v w) (spent w)
 joins_allowed k id other v w s r at apart at' =
@@ -137,4 +170,6 @@ joins_allowed k id other v w s r at apart at' =
           (sane_set k s.views id b r.sane (record { size = mine.size; roomy = omega arith; narrow = narrow_both v.holds w.holds mine.narrow theirs.narrow }))
           (record { size = theirs.size; roomy = omega arith; narrow = λ t o. absurd o });
       rooms = omega arith;
+      used = λ n l some_. joined_taken s.views id other v w at there ne n (r.used n l some_);
+      full = λ n u. joined_taken s.views id other v w at there ne n (r.full n (joined_full s.views id other v w at there n u));
     }

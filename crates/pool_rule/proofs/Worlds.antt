@@ -16,7 +16,7 @@ at_lt [] i a e = absurd (some-ne-none a (sym e))
 at_lt (x ∷ xs) zero a e = omega arith
 at_lt (x ∷ xs) (suc i) a e = let r = at_lt xs i a e in omega arith
 
-set_same : {A : Type 0} (l : List A) (i : ℕ) (d : A) → set l i (get_or l i d) ≡ l
+pub set_same : {A : Type 0} (l : List A) (i : ℕ) (d : A) → set l i (get_or l i d) ≡ l
 set_same [] i d = refl
 set_same (x ∷ xs) zero d = refl
 set_same (x ∷ xs) (suc i) d = ap (λ (ys : List _). x ∷ ys) (set_same xs i d)

@@ -1,6 +1,8 @@
 -- What holds of the pool's table between any two steps: its words, its word of live passes and the holds of its tokens are a world in which each
 -- word is the number of its holders.
-use Rattle.std.specs.Prelude.{◌≡◌, ℕ, ◌+◌, ◌^◌, ◌≤◌, List, [], ◌∷◌, length, map, take, slice_index}
+use Rattle.std.specs.Prelude.{◌≡◌, ◌≢◌, ◌⊎◌, ℕ, ◌+◌, ◌^◌, ◌<◌, ◌≤◌, List, [], ◌∷◌, length, map, take, slice_index}
+use mathlib.Core.Option.{some}
+use lib.ListN.{get_elem?}
 use Rattle.atomic_table.specs.Table.{State}
 use Rattle.node_forest.specs.Forest.{children}
 use Rattle.node_forest.specs.Label.{Node}
@@ -34,9 +36,29 @@ abbrev pub AreSane : ℕ → List View → Type 0
 AreSane k [] = Unit {0}
 AreSane k (v ∷ vs) = IsSane k v × AreSane k vs
 
--- the rule of a table with so many numbers
+abbrev pub Among : ℕ → List ℕ → Type 0
+Among n [] = ⊥
+Among n (m ∷ ms) = (n ≡ m) ⊎ Among n ms
+
+-- some token ever took the number
+pub record IsTaken (n : ℕ) (views : List View) : Type 0 where
+  pub id : ℕ
+  pub view : View
+  pub at : get_elem? views id ≡ some view
+  pub among : Among n view.taken
+
+-- a take of some token found the number in use
+pub record IsFull (n : ℕ) (views : List View) : Type 0 where
+  pub id : ℕ
+  pub view : View
+  pub at : get_elem? views id ≡ some view
+  pub among : Among n view.full
+
+-- the rule of a table with so many numbers; a number that is in use, or was ever found in use, was taken by some token
 pub record Ruled {S : Type 0} (k : ℕ) (s : State S View) : Type 0 where
   pub width : length s.words ≡ k + 1
   pub sound : IsSound (world k s)
   pub sane : AreSane k s.views
   pub rooms : rooms s.views ≡ 2 ^ 24
+  pub used : (n : ℕ) → n < k → slice_index s.words n ≢ 0 → IsTaken n s.views
+  pub full : (n : ℕ) → IsFull n s.views → IsTaken n s.views

@@ -1,5 +1,5 @@
 //! What the table's rule promises, for slots of any type.
-ghost use Rattle.std.specs.Prelude.{◌≡◌, ℕ, ◌+◌, ◌-◌, ◌*◌, ◌%◌, ◌^◌, ◌<◌, ◌≤◌, ◌==◌, List, ◌++◌, length};
+ghost use Rattle.std.specs.Prelude.{◌≡◌, ℕ, ◌+◌, ◌-◌, ◌*◌, ◌%◌, ◌^◌, ◌<◌, ◌≤◌, ◌==◌, List, [], ◌++◌, length, slice_index};
 ghost use mathlib.Core.Option.{some, none};
 ghost use lib.ListN.{get_elem?};
 ghost use prog.Atomic.{either};
@@ -37,4 +37,9 @@ pub fn steps_keep_the_rule<S>()
 pub fn tokens_divide<S>()
     ensures split { (k id room : ℕ) (v : View) → length v.holds + room ≤ v.room → Splits {S = S} (Ruled k) id v (narrower room v) (part_of room v) }
     ensures merge { (k id other : ℕ) (v w : View) → Joins {S = S} (Ruled k) id v other w (merged v w) (spent w) }
+{}
+
+/// Where one token has all the room and holds nothing, no number is in use.
+pub fn idle_pools_are_empty<S>()
+    ensures { (k : ℕ) (s : State S View) (id : ℕ) (v : View) → Ruled k s → get_elem? s.views id ≡ some v → v.room ≡ 2 ^ 24 → v.holds ≡ [] → (n : ℕ) → n < k → slice_index s.words n ≡ 0 }
 {}

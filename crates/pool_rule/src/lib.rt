@@ -6,4 +6,7 @@ mod laws;
 #[cfg(test)]
 mod tests;
 
-pub use laws::{pools_start_ruled, steps_are_the_count_rules, steps_keep_the_rule, tokens_divide};
+pub use laws::{
+    idle_pools_are_empty, pools_start_ruled, steps_are_the_count_rules, steps_keep_the_rule,
+    tokens_divide,
+};
