@@ -5,4 +5,5 @@ pub mod Holds
 pub mod Steps
 pub mod Allowed
 pub mod Tokens
+pub mod Hands
 pub mod Ends

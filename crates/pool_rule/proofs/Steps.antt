@@ -18,7 +18,7 @@ use Rattle.count_core.proofs.Moves.{step_sound, sound_of}
 use Rattle.pool_rule.specs.Views.{View, taking, sharing, leaving}
 use Rattle.pool_rule.specs.Rules.{holds_of, world, Among, IsTaken, IsSane, Ruled}
 use Rattle.pool_rule.proofs.Taken.{among_split, taken_set, full_set, used_set}
-use Rattle.pool_rule.proofs.Worlds.{at_lt, held_at, length-rooms, narrow-roots, rooms_set, sane_set, world_stepped, word_world, width_world, places_world, word_again}
+use Rattle.pool_rule.proofs.Worlds.{at_lt, held_at, length-rooms, narrow-roots, rooms_set, sane_set, world_stepped, word_world, width_world, places_world, word_again, world_live}
 use Rattle.pool_rule.specs.Steps.{AreCoreSteps}
 use Rattle.pool_rule.proofs.Holds.{first_only, holders_le}
 
@@ -176,5 +176,7 @@ module _ {S : Type 0} (k : ℕ) (s : State S View) (id : ℕ) (v : View) (r : Ru
     take = λ t l free held. take_does t c l free held;
     share = λ t small o. share_does t c (get_or s.words (number t) 0 + 1) small o refl;
     leave = λ t h. leave_does t c (get_or s.words (number t) 0 - 1) h refl;
+    counted = λ w same low. ((is_view, low), world_live k s id v w (get_or s.words k 0 + 1) c at r.width same);
+    uncounted = λ w same some_. ((is_view, some_), world_live k s id v w (get_or s.words k 0 - 1) c at r.width same);
     look = λ t o. look_does t c o;
   }

@@ -59,11 +59,11 @@ moving-none : (i : ℕ) (hs : List Node) → moving [] i hs ≡ []
 moving-none i [] = refl
 moving-none i (t ∷ ts) = moving-none (i + 1) ts
 
-rooms-append : (a : List View) (w : View) → rooms (a ++ w ∷ []) ≡ rooms a + w.room
+pub rooms-append : (a : List View) (w : View) → rooms (a ++ w ∷ []) ≡ rooms a + w.room
 rooms-append [] w = omega arith
 rooms-append (v ∷ vs) w = let r = rooms-append vs w in omega arith
 
-sane_append : (k : ℕ) (a : List View) (w : View) → AreSane k a → IsSane k w → AreSane k (a ++ w ∷ [])
+pub sane_append : (k : ℕ) (a : List View) (w : View) → AreSane k a → IsSane k w → AreSane k (a ++ w ∷ [])
 sane_append k [] w r s = (s, tt)
 sane_append k (v ∷ vs) w r s = (r.0, sane_append k vs w r.1 s)
 

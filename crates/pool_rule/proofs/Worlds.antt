@@ -1,13 +1,13 @@
 -- The world of a table, and what a change of one word and one view makes of it.
-use Rattle.std.proofs.Common.{◌≡◌, ◌≢◌, ⊎_elim, ℕ, zero, suc, ◌+◌, ◌<◌, ◌≤◌, List, [], ◌∷◌, length, map, get_or, set, take, refl, sym, ◌∙◌, ap, subst, arith, length-append, get_or-set_other}
-use Rattle.std.proofs.lemmas.List.{map-set, get_or-take, length-map, length-take-le}
+use Rattle.std.proofs.Common.{◌≡◌, ◌≢◌, ⊎_elim, ℕ, zero, suc, ◌+◌, ◌<◌, ◌≤◌, List, [], ◌∷◌, length, map, get_or, set, take, refl, sym, ◌∙◌, ap, subst, arith, length-append, get_or-set_same, get_or-set_other}
+use Rattle.std.proofs.lemmas.List.{map-set, take-set-le, get_or-take, length-map, length-take-le}
 use Rattle.std.proofs.Math.Seq.{take-set-lt}
 use mathlib.Core.Option.{some, some-injective, some-ne-none}
 use lib.ListN.{get_elem?}
 use Rattle.atomic_table.specs.Table.{State, keeps, stepped}
 use Rattle.node_forest.specs.Label.{Node}
 use Rattle.node_forest.proofs.Members.{occurs_split}
-use Rattle.count_core.specs.Steps.{changed, word_at, roots}
+use Rattle.count_core.specs.Steps.{changed, with_live, word_at, roots}
 use Rattle.pool_rule.specs.Views.{View}
 use Rattle.pool_rule.specs.Rules.{holds_of, world, rooms, Narrow, IsSane, AreSane}
 
@@ -76,3 +76,11 @@ module _ {S : Type 0} (k : ℕ) (s : State S View) where
       let words : set (take k s.words) n m ≡ take k s.words = ap (set (take k s.words) n) word ∙ set_same (take k s.words) n 0 in
       let views : set (map holds_of s.views) id hs ≡ map holds_of s.views = ap (set (map holds_of s.views) id) (is ∙ sym (held_at s.views id v at)) ∙ set_same (map holds_of s.views) id [] in
       (λ i. record { words = words i; live = get_or s.words k 0; views = views i })
+
+  -- a step on the word of live passes that leaves the token's holds
+  pub world_live : (id : ℕ) (v w : View) (m : ℕ) (c : List (ℕ × S)) → get_elem? s.views id ≡ some v → length s.words ≡ k + 1 → w.holds ≡ v.holds → world k (stepped s k m id c w keeps) ≡ with_live (world k s) m
+  world_live id v w m c at width same =
+      let words = take-set-le k s.words k m (omega arith) in
+      let live = get_or-set_same s.words k m 0 (omega arith) in
+      let views = map-set holds_of s.views id w ∙ ap (set (map holds_of s.views) id) (same ∙ sym (held_at s.views id v at)) ∙ set_same (map holds_of s.views) id [] in
+      (λ i. record { words = words i; live = live i; views = views i })

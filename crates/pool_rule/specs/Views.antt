@@ -54,6 +54,13 @@ narrower room v = record { holds = v.holds; room = v.room - room; size = v.size;
 abbrev pub part_of : ℕ → View → View
 part_of room v = blank room v.size
 
+-- after one direct hold went to a token of its own, and that token
+abbrev pub handing : Node → View → View
+handing t v = record { holds = without (number t) v.holds; room = v.room - 1; size = v.size; taken = v.taken; full = v.full }
+
+abbrev pub holder : Node → View → View
+holder t v = record { holds = t ∷ []; room = 1; size = v.size; taken = []; full = [] }
+
 -- two tokens in one, and what the second is left with
 abbrev pub merged : View → View → View
 merged v w = record { holds = v.holds ++ w.holds; room = v.room + w.room; size = v.size; taken = v.taken ++ w.taken; full = v.full ++ w.full }

@@ -9,7 +9,7 @@ ghost use Rattle.node_forest.specs.Label.{Node, number};
 ghost use Rattle.node_forest.specs.Members.{In, Occurs};
 ghost use Rattle.count_core.specs.Views.{AreHeld, without};
 ghost use Rattle.count_core.specs.Steps.{zeroes};
-ghost use Rattle.pool_rule.specs.Views.{View, blank, taking, narrower, part_of, merged, spent};
+ghost use Rattle.pool_rule.specs.Views.{View, blank, taking, narrower, part_of, handing, holder, merged, spent};
 ghost use Rattle.pool_rule.specs.Rules.{Ruled};
 ghost use Rattle.pool_rule.specs.Plays.{taken, shared, left, looked};
 ghost use Rattle.pool_rule.specs.Steps.{AreCoreSteps};
@@ -33,9 +33,11 @@ pub fn steps_keep_the_rule<S>()
     ensures look { (k slots id : ℕ) (me : Me S View) (t : Node) → Occurs t me.0.holds → Allows (Ruled k) slots id me (number t) (λ n. n) (looked t (step slots (number t) 0 0 none) me) }
 {}
 
-/// A token with room of its own is split from another, and a token's holds go behind another's.
+/// A token with room of its own is split from another, one direct hold goes to a token of its own, and a token's holds go
+/// behind another's.
 pub fn tokens_divide<S>()
     ensures split { (k id room : ℕ) (v : View) → length v.holds + room ≤ v.room → Splits {S = S} (Ruled k) id v (narrower room v) (part_of room v) }
+    ensures hand { (k id : ℕ) (v : View) (t : Node) → In t v.holds → Splits {S = S} (Ruled k) id v (handing t v) (holder t v) }
     ensures merge { (k id other : ℕ) (v w : View) → Joins {S = S} (Ruled k) id v other w (merged v w) (spent w) }
 {}
 
