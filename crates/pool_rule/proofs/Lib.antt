@@ -7,3 +7,5 @@ pub mod Allowed
 pub mod Tokens
 pub mod Hands
 pub mod Ends
+pub mod Trades
+pub mod Door

@@ -3,3 +3,4 @@ pub mod Views
 pub mod Rules
 pub mod Plays
 pub mod Steps
+pub mod Trades

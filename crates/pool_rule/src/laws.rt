@@ -1,5 +1,5 @@
 //! What the table's rule promises, for slots of any type.
-ghost use Rattle.std.specs.Prelude.{◌≡◌, ℕ, ◌+◌, ◌-◌, ◌*◌, ◌%◌, ◌^◌, ◌<◌, ◌≤◌, ◌==◌, List, [], ◌++◌, length, slice_index};
+ghost use Rattle.std.specs.Prelude.{◌≡◌, ℕ, ◌+◌, ◌-◌, ◌*◌, ◌%◌, ◌^◌, ◌<◌, ◌≤◌, ◌==◌, List, [], ◌∷◌, ◌++◌, length, slice_index};
 ghost use mathlib.Core.Option.{some, none};
 ghost use lib.ListN.{get_elem?};
 ghost use prog.Atomic.{either};
@@ -7,12 +7,13 @@ ghost use Rattle.atomic_table.specs.Table.{State, Me, step, Allows, Splits, Join
 ghost use Rattle.node_forest.specs.Forest.{children};
 ghost use Rattle.node_forest.specs.Label.{Node, number};
 ghost use Rattle.node_forest.specs.Members.{In, Occurs};
-ghost use Rattle.count_core.specs.Views.{AreHeld, without};
+ghost use Rattle.count_core.specs.Views.{AreHeld, without, without_all};
 ghost use Rattle.count_core.specs.Steps.{zeroes};
 ghost use Rattle.pool_rule.specs.Views.{View, blank, taking, narrower, part_of, handing, holder, merged, spent};
 ghost use Rattle.pool_rule.specs.Rules.{Ruled};
-ghost use Rattle.pool_rule.specs.Plays.{taken, shared, left, looked};
+ghost use Rattle.pool_rule.specs.Plays.{AreOneEach, taken, shared, left, looked};
 ghost use Rattle.pool_rule.specs.Steps.{AreCoreSteps};
+ghost use Rattle.pool_rule.specs.Trades.{Trades, HasHolds, Stands};
 
 /// A pool whose words are 0 and whose one token holds nothing.
 pub fn pools_start_ruled<S>()
@@ -44,4 +45,14 @@ pub fn tokens_divide<S>()
 /// Where one token has all the room and holds nothing, no number is in use.
 pub fn idle_pools_are_empty<S>()
     ensures { (k : ℕ) (s : State S View) (id : ℕ) (v : View) → Ruled k s → get_elem? s.views id ≡ some v → v.room ≡ 2 ^ 24 → v.holds ≡ [] → (n : ℕ) → n < k → slice_index s.words n ≡ 0 }
+{}
+
+/// What those who use the pool know of their holds by weights is what the steps ask for, and what the steps tell is a trade of
+/// holds.
+pub fn weights_tell_holds()
+    ensures held { (hs cs : List Node) → AreOneEach hs → HasHolds hs cs → AreHeld cs hs }
+    ensures stands { (hs : List Node) (e : Node) → Stands hs e → Occurs e hs }
+    ensures take { (old cs : List Node) (e : Node) → AreOneEach old → HasHolds old cs → Trades old cs (e ∷ []) (without_all cs old ++ e ∷ []) }
+    ensures leave { (old gained : List Node) (e : Node) → AreOneEach old → In e old → Trades old (e ∷ []) gained (without (number e) old ++ gained) }
+    ensures share { (old : List Node) (e : Node) → Trades old [] (e ∷ []) (old ++ e ∷ []) }
 {}

@@ -8,5 +8,5 @@ mod tests;
 
 pub use laws::{
     idle_pools_are_empty, pools_start_ruled, steps_are_the_count_rules, steps_keep_the_rule,
-    tokens_divide,
+    tokens_divide, weights_tell_holds,
 };
