@@ -20,11 +20,11 @@ use Rattle.count_core.proofs.Places.{without_hit, without_miss}
 use Rattle.count_core.proofs.Moves.{step_sound}
 use Rattle.pool_rule.specs.Views.{View, handing, holder}
 use Rattle.pool_rule.specs.Rules.{holds_of, world, IsTaken, Ruled}
-use Rattle.pool_rule.proofs.Worlds.{at_lt, held_at, rooms_set, sane_set, sane_at, places_world}
+use Rattle.pool_rule.proofs.Worlds.{at_lt, held_at, rooms_set, passes_set, overs_set, spares_set, sane_set, sane_at, places_world}
 use Rattle.pool_rule.proofs.Holds.{occurs_without}
 use Rattle.pool_rule.proofs.Taken.{taken_set, full_set, taken_longer, full_longer}
 use Rattle.pool_rule.proofs.Steps.{first_held}
-use Rattle.pool_rule.proofs.Tokens.{rooms-append, sane_append}
+use Rattle.pool_rule.proofs.Tokens.{rooms-append, passes-append, overs-append, spares-append, sane_append}
 
 among_same : (i p : ℕ) → i ≡ p → is_among i (p ∷ []) ≡ true
 among_same i p e = ap (λ (b : Bool). b || false) (eq-eqb i p e)
@@ -108,12 +108,21 @@ module _ {S : Type 0} (k id : ℕ) (v : View) (t : Node) (h : In t v.holds) wher
             ∙ (λ i. set (map holds_of s.views) id (stay i) ++ sym p.moves i ∷ [])),
       )
 
-  pub hands_allowed : Splits {S = S} (Ruled k) id v (handing t v) (holder t v)
-  hands_allowed s r at =
+  pub hands_allowed : 0 < v.passes → Splits {S = S} (Ruled k) id v (handing t v) (holder t v)
+  hands_allowed own s r at =
       let mine = sane_at k s.views id v r.sane at in
       let a = rooms_set s.views id v (handing t v) at in
       let b = rooms-append (set s.views id (handing t v)) (holder t v) in
       let d = r.rooms in
+      let pa = passes_set s.views id v (handing t v) at in
+      let pb = passes-append (set s.views id (handing t v)) (holder t v) in
+      let pd = r.live in
+      let oa = overs_set s.views id v (handing t v) at in
+      let ob = overs-append (set s.views id (handing t v)) (holder t v) in
+      let od = r.low in
+      let sa = spares_set s.views id v (handing t v) at in
+      let sb = spares-append (set s.views id (handing t v)) (holder t v) in
+      let sd = r.spares in
       let one = mine.roomy in
       let less = length-without t v.holds h in
       let does = hand_does s r at in
@@ -121,9 +130,12 @@ module _ {S : Type 0} (k id : ℕ) (v : View) (t : Node) (h : In t v.holds) wher
         width = r.width;
         sound = subst IsSound (sym does.1) (step_sound (split id ((hand_place s r at).place ∷ [])) (world k s) r.sound does.0);
         sane = sane_append k (set s.views id (handing t v)) (holder t v)
-            (sane_set k s.views id (handing t v) r.sane (record { size = mine.size; roomy = omega arith; narrow = λ x o. mine.narrow x (occurs_without (number t) x v.holds o) }))
-            (record { size = mine.size; roomy = omega arith; narrow = λ x o. mine.narrow x (below_in x t v.holds (root_occurs t v.holds h) (alone_out x t o)) });
+            (sane_set k s.views id (handing t v) r.sane (record { size = mine.size; roomy = omega arith; narrow = λ x o. mine.narrow x (occurs_without (number t) x v.holds o); limited = mine.limited; fewer = mine.fewer }))
+            (record { size = mine.size; roomy = omega arith; narrow = λ x o. mine.narrow x (below_in x t v.holds (root_occurs t v.holds h) (alone_out x t o)); limited = mine.limited; fewer = omega arith });
         rooms = omega arith;
+        live = omega arith;
+        low = omega arith;
+        spares = omega arith;
         used = λ n l some_. later n (r.used n l some_);
         full = λ n u. later n (⊎_elim (λ a. r.full n a) (λ b. absurd b)
             (full_set s.views id v (handing t v) at {X = ⊥} n (λ a. inl a) (full_longer (set s.views id (handing t v)) (holder t v) n refl u)));

@@ -7,5 +7,6 @@ pub mod Allowed
 pub mod Tokens
 pub mod Hands
 pub mod Ends
+pub mod Passes
 pub mod Trades
 pub mod Door

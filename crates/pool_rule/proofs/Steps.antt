@@ -1,5 +1,5 @@
 -- Each step of a token is a step of the count rule's world, and keeps the rule.
-use Rattle.std.proofs.Common.{◌≡◌, ◌≢◌, ◌⊎◌, inl, inr, ⊎_elim, ℕ, ◌+◌, ◌-◌, ◌*◌, ◌^◌, ◌<◌, ◌≤◌, true, List, [], ◌∷◌, ◌++◌, length, map, get_or, refl, sym, ◌∙◌, ap, subst, arith, length-set}
+use Rattle.std.proofs.Common.{◌≡◌, ◌≢◌, ◌⊎◌, inl, inr, ⊎_elim, ℕ, ◌+◌, ◌-◌, ◌*◌, ◌^◌, ◌<◌, ◌≤◌, true, List, [], ◌∷◌, ◌++◌, length, map, get_or, refl, sym, ◌∙◌, ap, subst, arith, set, length-set, get_or-set_other}
 use Rattle.std.specs.Prelude.{Option, Some, IsSome, option_to_list}
 use mathlib.Core.Option.{some}
 use lib.ListN.{get_elem?}
@@ -18,9 +18,13 @@ use Rattle.count_core.proofs.Moves.{step_sound, sound_of}
 use Rattle.pool_rule.specs.Views.{View, taking, sharing, leaving}
 use Rattle.pool_rule.specs.Rules.{holds_of, world, Among, IsTaken, IsSane, Ruled}
 use Rattle.pool_rule.proofs.Taken.{among_split, taken_set, full_set, used_set}
-use Rattle.pool_rule.proofs.Worlds.{at_lt, held_at, length-rooms, narrow-roots, rooms_set, sane_set, world_stepped, word_world, width_world, places_world, word_again, world_live}
+use Rattle.pool_rule.proofs.Worlds.{at_lt, held_at, length-rooms, narrow-roots, rooms_set, passes_set, overs_set, spares_set, overs_le, sane_set, world_stepped, word_world, width_world, places_world, word_again, world_live}
 use Rattle.pool_rule.specs.Steps.{AreCoreSteps}
 use Rattle.pool_rule.proofs.Holds.{first_only, holders_le}
+
+-- what a step that counts no pass leaves
+abbrev pub Steady : View → View → Type 0
+Steady v w = (w.room ≡ v.room) × (w.passes ≡ v.passes) × (w.over ≡ v.over) × (w.spare ≡ v.spare)
 
 module _ {S : Type 0} (k : ℕ) (s : State S View) (id : ℕ) (v : View) (r : Ruled k s) (at : get_elem? s.views id ≡ some v) where
   trees : List Node
@@ -57,7 +61,10 @@ module _ {S : Type 0} (k : ℕ) (s : State S View) (id : ℕ) (v : View) (r : Ru
       let f = word_world k s (number t) l in
       omega arith
 
-  pub word_low : k * 6 + 2 ^ 24 < 2 ^ 32 → (n : ℕ) → n < k → get_or s.words n 0 < 2 ^ 32
+  pub live_low : get_or s.words k 0 ≤ 2 ^ 18 + 64
+  live_low = let a = r.low in let b = overs_le k s.views r.sane in let c = r.spares in omega arith
+
+  pub word_low : k ≤ 2 ^ 18 → (n : ℕ) → n < k → get_or s.words n 0 < 2 ^ 32
   word_low small n l =
       let c = sound_of (world k s) r.sound in
       let w = width_world k s r.width in
@@ -67,6 +74,7 @@ module _ {S : Type 0} (k : ℕ) (s : State S View) (id : ℕ) (v : View) (r : Ru
       let b = holders_le size (roots (map holds_of s.views)) (narrow-roots k s.views r.sane) n in
       let a = length-rooms k s.views r.sane in
       let d = r.rooms in
+      let few = live_low in
       let times : size * 6 ≡ k * 6 = ap (λ (z : ℕ). z * 6) w in
       omega arith
 
@@ -94,7 +102,7 @@ module _ {S : Type 0} (k : ℕ) (s : State S View) (id : ℕ) (v : View) (r : Ru
             ∙ (λ i. changed (world k s) (number t) (one i) id (without_all (children t) (sym holds i) ++ t ∷ [])),
       )
 
-  pub share_does : (t : Node) (c : List (ℕ × S)) (m : ℕ) → k * 6 + 2 ^ 24 < 2 ^ 32 → Occurs t v.holds → m ≡ get_or s.words (number t) 0 + 1
+  pub share_does : (t : Node) (c : List (ℕ × S)) (m : ℕ) → k ≤ 2 ^ 18 → Occurs t v.holds → m ≡ get_or s.words (number t) 0 + 1
       → Does (share id (number t)) (world k s) true (world k (stepped s (number t) m id c (sharing t v) keeps))
   share_does t c m small o up =
       let l = low t o in
@@ -141,25 +149,34 @@ module _ {S : Type 0} (k : ℕ) (s : State S View) (id : ℕ) (v : View) (r : Ru
       )
 
   -- ---- what keeps the rule
-  pub does_ruled : (x : Step) (n m : ℕ) (w : View) (c : List (ℕ × S)) → Does x (world k s) true (world k (stepped s n m id c w keeps)) → IsSane k w → w.room ≡ v.room
+  live_stays : (n m : ℕ) → n < k → get_or (set s.words n m) k 0 ≡ get_or s.words k 0
+  live_stays n m l = let ne : k ≢ n = (λ e. omega arith) in get_or-set_other s.words n k m 0 ne
+
+  pub does_ruled : (x : Step) (n m : ℕ) (w : View) (c : List (ℕ × S)) → Does x (world k s) true (world k (stepped s n m id c w keeps)) → IsSane k w → Steady v w
       → n < k → ((j : ℕ) → Among j v.taken → Among j w.taken) → (m ≢ 0 → (get_or s.words n 0 ≢ 0) ⊎ Among n w.taken) → w.full ≡ v.full → Ruled k (stepped s n m id c w keeps)
   does_ruled x n m w c does sane room l keep some_ full = record {
     width = length-set s.words n m ∙ r.width;
     sound = subst IsSound (sym does.1) (step_sound x (world k s) r.sound does.0);
     sane = sane_set k s.views id w r.sane sane;
-    rooms = let q = rooms_set s.views id v w at in let d = r.rooms in omega arith;
+    rooms = let e = live_stays n m l in let h = room.0 in let q = rooms_set s.views id v w at in let d = r.rooms in omega arith;
+    live = let e = live_stays n m l in let h = room.1 in let q = passes_set s.views id v w at in let d = r.live in omega arith;
+    low = let e = live_stays n m l in let h = room.2 in let q = overs_set s.views id v w at in let d = r.low in omega arith;
+    spares = let h = room.3 in let q = spares_set s.views id v w at in let d = r.spares in omega arith;
     used = used_set s.views id v w at k s.words n m (let a = r.width in omega arith) keep some_ r.used;
     full = λ j u. ⊎_elim (λ a. taken_set s.views id v w at j (keep j) (r.full j a)) (λ b. absurd b)
         (full_set s.views id v w at {X = ⊥} j (λ a. inl (subst (λ (z : List ℕ). Among j z) full a)) u);
   }
 
-  pub idle_ruled : (n m : ℕ) (w : View) (c : List (ℕ × S)) → world k (stepped s n m id c w keeps) ≡ world k s → IsSane k w → w.room ≡ v.room
+  pub idle_ruled : (n m : ℕ) (w : View) (c : List (ℕ × S)) → world k (stepped s n m id c w keeps) ≡ world k s → IsSane k w → Steady v w
       → n < k → get_or s.words n 0 ≢ 0 → w.taken ≡ v.taken → w.full ≡ v.full ++ n ∷ [] → Ruled k (stepped s n m id c w keeps)
   idle_ruled n m w c same sane room l some_ taken full = record {
     width = length-set s.words n m ∙ r.width;
     sound = subst IsSound (sym same) r.sound;
     sane = sane_set k s.views id w r.sane sane;
-    rooms = let q = rooms_set s.views id v w at in let d = r.rooms in omega arith;
+    rooms = let e = live_stays n m l in let h = room.0 in let q = rooms_set s.views id v w at in let d = r.rooms in omega arith;
+    live = let e = live_stays n m l in let h = room.1 in let q = passes_set s.views id v w at in let d = r.live in omega arith;
+    low = let e = live_stays n m l in let h = room.2 in let q = overs_set s.views id v w at in let d = r.low in omega arith;
+    spares = let h = room.3 in let q = spares_set s.views id v w at in let d = r.spares in omega arith;
     used = used_set s.views id v w at k s.words n m (let a = r.width in omega arith) keep (λ _. inl some_) r.used;
     full = λ j u. taken_set s.views id v w at j (keep j) (⊎_elim (r.full j) (λ b. b)
         (full_set s.views id v w at {X = IsTaken j s.views} j (λ a. from j (among_split j v.full (n ∷ []) (subst (λ (z : List ℕ). Among j z) full a))) u));

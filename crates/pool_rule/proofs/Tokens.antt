@@ -1,5 +1,5 @@
 -- The first token, a token that is cut in two, and two that become one.
-use Rattle.std.proofs.Common.{◌≡◌, ◌≢◌, inl, ⊎_elim, true, ℕ, zero, suc, ◌+◌, ◌^◌, ◌≤◌, List, [], ◌∷◌, ◌++◌, length, map, get_or, set, take, refl, sym, ◌∙◌, ap, subst, arith, length-append}
+use Rattle.std.proofs.Common.{◌≡◌, ◌≢◌, inl, ⊎_elim, true, ℕ, zero, suc, ◌+◌, ◌^◌, ◌<◌, ◌≤◌, List, [], ◌∷◌, ◌++◌, length, map, get_or, set, take, refl, sym, ◌∙◌, ap, subst, arith, length-append}
 use Rattle.std.proofs.lemmas.List.{map-set, map-append}
 use Rattle.std.proofs.Math.Numerals.{add-one}
 use mathlib.Core.Option.{some}
@@ -16,9 +16,9 @@ use Rattle.count_core.specs.Worlds.{IsSound}
 use Rattle.count_core.proofs.Moves.{step_sound}
 use Rattle.count_core.proofs.Runs.{start_sound}
 use Rattle.pool_rule.specs.Views.{View, blank, narrower, part_of, merged, spent}
-use Rattle.pool_rule.specs.Rules.{holds_of, world, rooms, Among, IsTaken, IsFull, Narrow, IsSane, AreSane, Ruled}
+use Rattle.pool_rule.specs.Rules.{holds_of, world, rooms, passes, overs, spares, Among, IsTaken, IsFull, Narrow, IsSane, AreSane, Ruled}
 use Rattle.pool_rule.proofs.Taken.{among_left, among_right, among_split, view_at, taken_set, full_set, taken_longer, full_longer, full_nothing}
-use Rattle.pool_rule.proofs.Worlds.{at_lt, held_at, rooms_set, sane_set, sane_at, places_world}
+use Rattle.pool_rule.proofs.Worlds.{at_lt, held_at, rooms_set, passes_set, overs_set, spares_set, sane_set, sane_at, places_world}
 
 -- ---- at the start
 take-more_zeroes : (k : ℕ) → take k (zeroes (suc k)) ≡ zeroes k
@@ -37,17 +37,20 @@ length-zeroes : (k : ℕ) → length (zeroes k) ≡ k
 length-zeroes zero = refl
 length-zeroes (suc k) = let r = length-zeroes k in omega arith
 
-pub sane_blank : (k room : ℕ) → IsSane k (blank room k)
-sane_blank k room = record { size = refl; roomy = omega arith; narrow = λ t o. absurd o }
+pub sane_blank : (k room limit spare : ℕ) → limit ≤ 2 ^ 18 → IsSane k (blank room k limit spare)
+sane_blank k room limit spare l = record { size = refl; roomy = omega arith; narrow = λ t o. absurd o; limited = l; fewer = omega arith }
 
-pub starts : {S : Type 0} (k : ℕ) (xs : List S) → Ruled k (opening (zeroes (k + 1)) xs (blank (2 ^ 24) k))
-starts k xs = record {
+pub starts : {S : Type 0} (k limit : ℕ) (xs : List S) → limit ≤ 2 ^ 18 → Ruled k (opening (zeroes (k + 1)) xs (blank (2 ^ 24) k limit 64))
+starts k limit xs few = record {
   width = length-zeroes (k + 1);
   sound = subst IsSound (λ i. record { words = sym (take-zeroes k) i; live = sym (zero-at (k + 1) k) i; views = [] ∷ [] }) (start_sound k 1);
-  sane = (sane_blank k (2 ^ 24), tt);
-  rooms = omega arith;
+  sane = (sane_blank k (2 ^ 24) limit 64 few, tt);
+  rooms = let z = zero-at (k + 1) k in omega arith;
+  live = let z = zero-at (k + 1) k in omega arith;
+  low = let z = zero-at (k + 1) k in omega arith;
+  spares = omega arith;
   used = λ n l not_zero. absurd (not_zero (zero-at (k + 1) n));
-  full = λ n u. absurd (full_nothing n (full_longer [] (blank (2 ^ 24) k) n refl u));
+  full = λ n u. absurd (full_nothing n (full_longer [] (blank (2 ^ 24) k limit 64) n refl u));
 }
 
 -- ---- tokens cut in two
@@ -62,6 +65,18 @@ moving-none i (t ∷ ts) = moving-none (i + 1) ts
 pub rooms-append : (a : List View) (w : View) → rooms (a ++ w ∷ []) ≡ rooms a + w.room
 rooms-append [] w = omega arith
 rooms-append (v ∷ vs) w = let r = rooms-append vs w in omega arith
+
+pub passes-append : (a : List View) (w : View) → passes (a ++ w ∷ []) ≡ passes a + w.passes
+passes-append [] w = omega arith
+passes-append (v ∷ vs) w = let r = passes-append vs w in omega arith
+
+pub overs-append : (a : List View) (w : View) → overs (a ++ w ∷ []) ≡ overs a + w.over
+overs-append [] w = omega arith
+overs-append (v ∷ vs) w = let r = overs-append vs w in omega arith
+
+pub spares-append : (a : List View) (w : View) → spares (a ++ w ∷ []) ≡ spares a + w.spare
+spares-append [] w = omega arith
+spares-append (v ∷ vs) w = let r = spares-append vs w in omega arith
 
 pub sane_append : (k : ℕ) (a : List View) (w : View) → AreSane k a → IsSane k w → AreSane k (a ++ w ∷ [])
 sane_append k [] w r s = (s, tt)
@@ -81,20 +96,32 @@ module _ {S : Type 0} (k id : ℕ) (v : View) where
             ∙ (λ i. set (map holds_of s.views) id (stay i) ++ move i ∷ [])),
       )
 
-  pub splits_allowed : (room : ℕ) → length v.holds + room ≤ v.room → Splits {S = S} (Ruled k) id v (narrower room v) (part_of room v)
-  splits_allowed room fits s r at =
+  pub splits_allowed : (room : ℕ) → length v.holds + room ≤ v.room → v.over < v.spare → Splits {S = S} (Ruled k) id v (narrower room v) (part_of room v)
+  splits_allowed room fits less s r at =
       let mine = sane_at k s.views id v r.sane at in
       let a = rooms_set s.views id v (narrower room v) at in
       let b = rooms-append (set s.views id (narrower room v)) (part_of room v) in
       let d = r.rooms in
+      let pa = passes_set s.views id v (narrower room v) at in
+      let pb = passes-append (set s.views id (narrower room v)) (part_of room v) in
+      let pd = r.live in
+      let oa = overs_set s.views id v (narrower room v) at in
+      let ob = overs-append (set s.views id (narrower room v)) (part_of room v) in
+      let od = r.low in
+      let sa = spares_set s.views id v (narrower room v) at in
+      let sb = spares-append (set s.views id (narrower room v)) (part_of room v) in
+      let sd = r.spares in
       let does = split_does s room at in
       record {
         width = r.width;
         sound = subst IsSound (sym does.1) (step_sound (split id []) (world k s) r.sound does.0);
         sane = sane_append k (set s.views id (narrower room v)) (part_of room v)
-            (sane_set k s.views id (narrower room v) r.sane (record { size = mine.size; roomy = omega arith; narrow = mine.narrow }))
-            (record { size = mine.size; roomy = omega arith; narrow = λ t o. absurd o });
+            (sane_set k s.views id (narrower room v) r.sane (record { size = mine.size; roomy = omega arith; narrow = mine.narrow; limited = mine.limited; fewer = omega arith }))
+            (record { size = mine.size; roomy = omega arith; narrow = λ t o. absurd o; limited = mine.limited; fewer = omega arith });
         rooms = omega arith;
+        live = omega arith;
+        low = omega arith;
+        spares = omega arith;
         used = λ n l some_. later n (r.used n l some_);
         full = λ n u. later n (⊎_elim (λ a. r.full n a) (λ b. absurd b)
             (full_set s.views id v (narrower room v) at {X = ⊥} n (λ a. inl a) (full_longer (set s.views id (narrower room v)) (part_of room v) n refl u)));
@@ -152,6 +179,17 @@ joins_allowed k id other v w s r at apart at' =
     let x = rooms_set s.views id v b at in
     let y = rooms_set (set s.views id b) other w z at' in
     let d = r.rooms in
+    let px = passes_set s.views id v b at in
+    let py = passes_set (set s.views id b) other w z at' in
+    let pd = r.live in
+    let ox = overs_set s.views id v b at in
+    let oy = overs_set (set s.views id b) other w z at' in
+    let od = r.low in
+    let sx = spares_set s.views id v b at in
+    let sy = spares_set (set s.views id b) other w z at' in
+    let sd = r.spares in
+    let fv = mine.fewer in
+    let fw = theirs.fewer in
     let ne : id ≢ other = (λ e. apart (sym e)) in
     let p = places_world k s in
     let i = at_lt s.views id v at in
@@ -167,9 +205,12 @@ joins_allowed k id other v w s r at apart at' =
       width = r.width;
       sound = subst IsSound (ap (with_views (world k s)) (sym views)) (step_sound (merge id other) (world k s) r.sound (record { view = omega arith; second = omega arith; different = ne }));
       sane = sane_set k (set s.views id b) other z
-          (sane_set k s.views id b r.sane (record { size = mine.size; roomy = omega arith; narrow = narrow_both v.holds w.holds mine.narrow theirs.narrow }))
-          (record { size = theirs.size; roomy = omega arith; narrow = λ t o. absurd o });
+          (sane_set k s.views id b r.sane (record { size = mine.size; roomy = omega arith; narrow = narrow_both v.holds w.holds mine.narrow theirs.narrow; limited = mine.limited; fewer = omega arith }))
+          (record { size = theirs.size; roomy = omega arith; narrow = λ t o. absurd o; limited = theirs.limited; fewer = omega arith });
       rooms = omega arith;
+      live = omega arith;
+      low = omega arith;
+      spares = omega arith;
       used = λ n l some_. joined_taken s.views id other v w at there ne n (r.used n l some_);
       full = λ n u. joined_taken s.views id other v w at there ne n (r.full n (joined_full s.views id other v w at there n u));
     }

@@ -9,7 +9,7 @@ use Rattle.node_forest.specs.Label.{Node}
 use Rattle.node_forest.proofs.Members.{occurs_split}
 use Rattle.count_core.specs.Steps.{changed, with_live, word_at, roots}
 use Rattle.pool_rule.specs.Views.{View}
-use Rattle.pool_rule.specs.Rules.{holds_of, world, rooms, Narrow, IsSane, AreSane}
+use Rattle.pool_rule.specs.Rules.{holds_of, world, rooms, passes, overs, spares, Narrow, IsSane, AreSane}
 
 pub at_lt : {A : Type 0} (l : List A) (i : ℕ) (a : A) → get_elem? l i ≡ some a → i < length l
 at_lt [] i a e = absurd (some-ne-none a (sym e))
@@ -39,6 +39,25 @@ pub rooms_set : (views : List View) (id : ℕ) (v w : View) → get_elem? views 
 rooms_set [] id v w e = absurd (some-ne-none v (sym e))
 rooms_set (x ∷ xs) zero v w e = let a : x.room ≡ v.room = ap (λ (y : View). y.room) (some-injective x v e) in omega arith
 rooms_set (x ∷ xs) (suc id) v w e = let r = rooms_set xs id v w e in omega arith
+
+pub passes_set : (views : List View) (id : ℕ) (v w : View) → get_elem? views id ≡ some v → passes (set views id w) + v.passes ≡ passes views + w.passes
+passes_set [] id v w e = absurd (some-ne-none v (sym e))
+passes_set (x ∷ xs) zero v w e = let a : x.passes ≡ v.passes = ap (λ (y : View). y.passes) (some-injective x v e) in omega arith
+passes_set (x ∷ xs) (suc id) v w e = let r = passes_set xs id v w e in omega arith
+
+pub overs_set : (views : List View) (id : ℕ) (v w : View) → get_elem? views id ≡ some v → overs (set views id w) + v.over ≡ overs views + w.over
+overs_set [] id v w e = absurd (some-ne-none v (sym e))
+overs_set (x ∷ xs) zero v w e = let a : x.over ≡ v.over = ap (λ (y : View). y.over) (some-injective x v e) in omega arith
+overs_set (x ∷ xs) (suc id) v w e = let r = overs_set xs id v w e in omega arith
+
+pub spares_set : (views : List View) (id : ℕ) (v w : View) → get_elem? views id ≡ some v → spares (set views id w) + v.spare ≡ spares views + w.spare
+spares_set [] id v w e = absurd (some-ne-none v (sym e))
+spares_set (x ∷ xs) zero v w e = let a : x.spare ≡ v.spare = ap (λ (y : View). y.spare) (some-injective x v e) in omega arith
+spares_set (x ∷ xs) (suc id) v w e = let r = spares_set xs id v w e in omega arith
+
+pub overs_le : (k : ℕ) (views : List View) → AreSane k views → overs views ≤ spares views
+overs_le k [] r = omega arith
+overs_le k (x ∷ xs) r = let a = overs_le k xs r.1 in let b = r.0.fewer in omega arith
 
 pub sane_set : (k : ℕ) (views : List View) (id : ℕ) (w : View) → AreSane k views → IsSane k w → AreSane k (set views id w)
 sane_set k [] id w r h = tt

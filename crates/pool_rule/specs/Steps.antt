@@ -1,5 +1,5 @@
 -- That steps on the table are the count rule's steps on its world.
-use Rattle.std.specs.Prelude.{◌≡◌, ◌≢◌, ℕ, ◌+◌, ◌-◌, ◌*◌, ◌^◌, ◌<◌, true, List, slice_index}
+use Rattle.std.specs.Prelude.{◌≡◌, ◌≢◌, ℕ, ◌+◌, ◌-◌, ◌^◌, ◌<◌, ◌≤◌, true, List, slice_index}
 use Rattle.atomic_table.specs.Table.{State, keeps, stepped}
 use Rattle.node_forest.specs.Forest.{children}
 use Rattle.node_forest.specs.Label.{Node, number}
@@ -20,7 +20,7 @@ module _ {S : Type 0} (k : ℕ) (s : State S View) (id : ℕ) (v : View) (c : Li
 
   pub record AreCoreSteps : Type 0 where
     pub take : (t : Node) → number t < k → found t ≡ 0 → AreHeld (children t) v.holds → Does (take id (number t) t) (world k s) true (world k (after_step t 1 (taking t v)))
-    pub share : (t : Node) → k * 6 + 2 ^ 24 < 2 ^ 32 → Occurs t v.holds → Does (share id (number t)) (world k s) true (world k (after_step t (found t + 1) (sharing t v)))
+    pub share : (t : Node) → k ≤ 2 ^ 18 → Occurs t v.holds → Does (share id (number t)) (world k s) true (world k (after_step t (found t + 1) (sharing t v)))
     pub leave : (t : Node) → In t v.holds → Does (leave id (number t)) (world k s) true (world k (after_step t (found t - 1) (leaving (found t) t v)))
     pub counted : (w : View) → w.holds ≡ v.holds → slice_index s.words k < 2 ^ 32 → Does (counted id) (world k s) true (world k (stepped s k (slice_index s.words k + 1) id c w keeps))
     pub uncounted : (w : View) → w.holds ≡ v.holds → slice_index s.words k ≢ 0 → Does (uncounted id) (world k s) true (world k (stepped s k (slice_index s.words k - 1) id c w keeps))
