@@ -1,0 +1,12 @@
+-- The lemmas of this crate.
+pub mod Worlds
+pub mod Taken
+pub mod Holds
+pub mod Steps
+pub mod Allowed
+pub mod Tokens
+pub mod Hands
+pub mod Ends
+pub mod Passes
+pub mod Trades
+pub mod Door

@@ -1,0 +1,6 @@
+-- The definitions of this crate.
+pub mod Views
+pub mod Rules
+pub mod Plays
+pub mod Steps
+pub mod Trades

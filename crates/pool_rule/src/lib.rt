@@ -1,0 +1,12 @@
+//! The rule of the pool's table: between any two steps its words and what its tokens hold are a world of the count rule,
+//! and each step of a token is that rule's step. There is no code here but the laws.
+#![tactic(auto)]
+
+mod laws;
+#[cfg(test)]
+mod tests;
+
+pub use laws::{
+    idle_pools_are_empty, passes_keep_the_rule, pools_start_ruled, steps_are_the_count_rules,
+    steps_keep_the_rule, tokens_divide, weights_tell_holds,
+};

@@ -1,0 +1,16 @@
+//! The laws at a type of slots.
+use crate::laws::{
+    idle_pools_are_empty, passes_keep_the_rule, pools_start_ruled, steps_are_the_count_rules,
+    steps_keep_the_rule, tokens_divide, weights_tell_holds,
+};
+
+#[test]
+fn laws_hold_of_slots_of_a_type(_rt: HostRuntime) {
+    pools_start_ruled::<Option<u64>>();
+    steps_are_the_count_rules::<Option<u64>>();
+    steps_keep_the_rule::<Option<u64>>();
+    tokens_divide::<Option<u64>>();
+    idle_pools_are_empty::<Option<u64>>();
+    passes_keep_the_rule::<Option<u64>>();
+    weights_tell_holds();
+}
