@@ -59,7 +59,7 @@ impl<'a> Names<'a> {
         }
     }
 
-    // Puts a cord in the place of the one that a name has, if it was ever set.
+    /// Puts a cord in the place of the one that a name has, if it was ever set.
     pub fn exchange(&mut self, name: &[u8], cord: PlainCord) -> Option<PlainCord>
         ensures found { option_map state_of result ≡ environment_of self.old name.now }
         ensures set { IsSome result → SameNames (environment_of self.new) (with_name (environment_of self.old) name.now (state_of cord)) }

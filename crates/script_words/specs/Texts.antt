@@ -1,5 +1,5 @@
 -- A text, from left to right.
-use Rattle.std.specs.Prelude.{ℕ, ◌+◌, ◌-◌, ◌*◌, ◌&&◌, ◌||◌, List, [], ◌∷◌, length, Option, Some, None, Result, Ok, Err, nat_le, ◌==◌, if◌then◌else◌}
+use Rattle.std.specs.Prelude.{ℕ, Bool, not, ◌+◌, ◌-◌, ◌*◌, ◌&&◌, ◌||◌, List, [], ◌∷◌, ◌++◌, length, Option, Some, None, Result, Ok, Err, nat_le, ◌==◌, if◌then◌else◌}
 use Rattle.script_words.specs.declared.fault.Cause.{Cause}
 use Rattle.script_words.specs.declared.fault.Cause.TheVariants as causes
 use Rattle.plain_cord.specs.declared.script.Text.{Text}
@@ -13,6 +13,10 @@ use Rattle.script_words.specs.Numbers.{decimal_at}
 
 abbrev pub hex_value : ℕ → Option ℕ
 hex_value c = if is_digit c then Some (c - 48) else (if nat_le 97 c && nat_le c 102 then Some (c - 87) else None)
+
+-- a byte that is its own spelling
+abbrev pub stands_for_itself : ℕ → Bool
+stands_for_itself c = is_shown c && not (c == 34) && not (c == 92)
 
 abbrev pub low_of : Option ℕ → Option ℕ → Scan
 low_of None low = Fault
@@ -43,6 +47,10 @@ follow Fault more rest = Err causes.Text
 abbrev pub piece_at : Mode → List ℕ → Result (List ℕ × List ℕ) Cause
 piece_at mode [] = Err causes.Text
 piece_at mode (c ∷ cs) = follow (scan mode c) (λ m. piece_at m cs) cs
+
+-- what was read before, and what is read behind it
+abbrev pub with_front : List ℕ → Result (List ℕ × List ℕ) Cause → Result (List ℕ × List ℕ) Cause
+with_front front read = read >>= λ x. Ok (front ++ x.0, x.1)
 
 abbrev pub count_is : Option ℕ → Result ℕ Cause
 count_is None = Err causes.Text

@@ -51,6 +51,7 @@ fn texts_are_quoted_and_short(rt: HostRuntime) {
         (b"\"\"".as_slice(), Some((0, 1))),
         (b"\"a b\"*1".as_slice(), Some((3, 1))),
         (b"\"\\\"\\\\\\n\\x0f\"*7".as_slice(), Some((4, 7))),
+        (b"\"ab\\ncd\"*2".as_slice(), Some((5, 2))),
         (b"\"a\"*1048576".as_slice(), Some((1, 1048576))),
         (b"\"\"*1048576".as_slice(), Some((0, 1048576))),
         (b"\"ab\"*524288".as_slice(), Some((2, 524288))),

@@ -1,8 +1,9 @@
 //! Quoted texts with their escapes and counts.
-ghost use Rattle.std.specs.Prelude.{◌≡◌, ◌<◌, ◌≤◌, length, IfSome, Ok};
+ghost use Rattle.std.specs.Prelude.{◌≡◌, ◌<◌, ◌≤◌, true, length, take, IfSome, Ok};
+ghost use Rattle.std.specs.List.{list_all};
 ghost use Rattle.script_words.specs.Reading.{Gives};
 ghost use Rattle.script_words.specs.declared.texts.Mode.TheVariants.{Plain};
-ghost use Rattle.script_words.specs.Texts.{hex_value, scan, piece_at, times_at, quoted_at, text_at};
+ghost use Rattle.script_words.specs.Texts.{hex_value, stands_for_itself, scan, piece_at, with_front, times_at, quoted_at, text_at};
 
 use crate::fault::{Cause, Refused};
 use crate::numbers::decimal;
@@ -74,11 +75,31 @@ fn scan_byte(mode: Mode, c: u8) -> Scan
     }
 }
 
-/// The bytes up to the closing quote, and what stands behind it.
-fn read_piece(alloc: Global, bytes: &[u8]) -> Result<(Items<u8>, &[u8]), Refused>
-    ensures { Gives (λ x. (x.0, x.1.now)) result (piece_at Plain bytes.now) }
+/// Whether the byte stands for itself.
+fn is_itself(c: u8) -> bool
+    ensures { result ≡ stands_for_itself c }
 {
-    let mut piece = Items::new(alloc);
+    32 <= c && c <= 126 && c != 34 && c != 92
+}
+
+/// How many bytes in front stand for themselves.
+fn plain_run(bytes: &[u8]) -> usize
+    ensures within { result ≤ length bytes.now }
+    ensures plain { list_all stands_for_itself (take result bytes.now) ≡ true }
+{
+    for (i, c) in bytes.iter().enumerate() {
+        if !is_itself(*c) {
+            return i;
+        }
+    }
+    bytes.len()
+}
+
+/// The bytes up to the closing quote, behind those in front, and what stands behind it.
+fn read_behind(front: Items<u8>, bytes: &[u8]) -> Result<(Items<u8>, &[u8]), Refused>
+    ensures { Gives (λ x. (x.0, x.1.now)) result (with_front front (piece_at Plain bytes.now)) }
+{
+    let mut piece = front;
     let mut mode = Mode::Plain;
     for (i, c) in bytes.iter().enumerate() {
         match scan_byte(mode, *c) {
@@ -94,6 +115,15 @@ fn read_piece(alloc: Global, bytes: &[u8]) -> Result<(Items<u8>, &[u8]), Refused
         }
     }
     Err(Refused::Fault(Cause::Text))
+}
+
+/// The bytes up to the closing quote, and what stands behind it. Those before the first escape are copied at once.
+fn read_piece(alloc: Global, bytes: &[u8]) -> Result<(Items<u8>, &[u8]), Refused>
+    ensures { Gives (λ x. (x.0, x.1.now)) result (piece_at Plain bytes.now) }
+{
+    let run = plain_run(bytes);
+    let front = Items::from_slice(alloc, &bytes[..run])?;
+    read_behind(front, &bytes[run..])
 }
 
 /// How often the bytes stand: once, or the count behind `*`.
