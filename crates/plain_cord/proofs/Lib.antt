@@ -1,3 +1,4 @@
+pub mod MergeLaws
 pub mod OrderLaws
 pub mod PlaceLaws
 pub mod RunLaws

@@ -1,13 +1,10 @@
--- A run goes on by one command, or by one session.
+-- A run goes on by one command.
 use Rattle.std.proofs.Common.{◌≡◌, sym, subst, List, [], ◌∷◌, ◌++◌, refl}
 use mathlib.Core.Path.{fun_ext}
 use Rattle.plain_cord.specs.declared.script.Command.{Command}
-use Rattle.plain_cord.specs.declared.script.Session.{Session}
 use Rattle.plain_cord.specs.declared.reply.Reply.{Reply}
-use Rattle.plain_cord.specs.declared.reply.Book.{Book}
 use Rattle.plain_cord.specs.States.{Environment, SameNames}
 use Rattle.plain_cord.specs.Steps.{PlainStep, PlainRun}
-use Rattle.plain_cord.specs.Runs.{IsBookOf, IsPlainRun}
 
 pub run-step : (names : Environment) (commands : List Command) (replies : List Reply) (now : Environment) (command : Command) (reply : Reply) (next : Environment)
     → PlainRun names commands replies now → PlainStep now command next reply → PlainRun names (commands ++ command ∷ []) (replies ++ reply ∷ []) next
@@ -15,10 +12,3 @@ run-step names [] [] now command reply next same step = (next, subst (λ (start 
 run-step names [] (r ∷ replies) now command reply next run step = absurd run
 run-step names (c ∷ commands) [] now command reply next run step = absurd run
 run-step names (c ∷ commands) (r ∷ replies) now command reply next run step = (run.0, run.1, run-step run.0 commands replies now command reply next run.2 step)
-
-pub plain_run-more : (sessions : List Session) (books : List Book) (session : Session) (book : Book)
-    → IsPlainRun sessions books → IsBookOf session book → IsPlainRun (sessions ++ session ∷ []) (books ++ book ∷ [])
-plain_run-more [] [] session book run one = (one, tt)
-plain_run-more [] (b ∷ books) session book run one = absurd run
-plain_run-more (s ∷ sessions) [] session book run one = absurd run
-plain_run-more (s ∷ sessions) (b ∷ books) session book run one = (run.0, plain_run-more sessions books session book run.1 one)

@@ -2,6 +2,10 @@ pub mod Texts
 pub mod States
 pub mod Outcomes
 pub mod Steps
+pub mod Deeds
+pub mod Effects
+pub mod RunOrders
 pub mod Runs
+pub mod Alone
 pub mod Places
 pub mod Orders

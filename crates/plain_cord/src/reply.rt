@@ -40,6 +40,8 @@ pub enum Reply {
     Position { asked: u64, size: u64 },
     /// The result would have `asked` bytes, more than a cord may have.
     Length { asked: u64 },
+    /// A cell of the board was found empty.
+    Empty { cell: u8 },
 }
 
 /// A session's answers, one for each of its commands.
