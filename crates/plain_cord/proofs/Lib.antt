@@ -1,3 +1,4 @@
+pub mod AloneLaws
 pub mod MergeLaws
 pub mod OrderLaws
 pub mod PlaceLaws
