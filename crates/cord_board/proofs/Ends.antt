@@ -8,7 +8,7 @@ use Rattle.turn_desk.specs.declared.knowledge.Knowledge.{Knowledge}
 use Rattle.turn_desk.specs.Passes.{desk_view, Ended}
 use Rattle.turn_desk.specs.Spots.{Spot, home, out, at_home}
 use Rattle.cord_board.specs.declared.cells.Cells.{Cells}
-use Rattle.cord_board.specs.declared.view.Deed.{Deed}
+use Rattle.plain_cord.specs.declared.deed.Deed.{Deed}
 use Rattle.cord_board.specs.declared.view.BoardView.{BoardView}
 use Rattle.cord_board.specs.declared.view.BoardView.TheVariants.{Root, Session}
 use Rattle.cord_board.specs.Rule.{value_of, Replays, SpeaksEach, Fits, Stands, IsHistory}

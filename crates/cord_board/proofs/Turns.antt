@@ -7,13 +7,14 @@ use Rattle.atomic_table.proofs.Lists.{set_else}
 use Rattle.turn_desk.specs.Agreements.{Agreed, AgreedBoth}
 use Rattle.turn_desk.specs.Spots.{Spot, home}
 use Rattle.cord_board.specs.declared.cells.Cells.{Cells}
-use Rattle.cord_board.specs.declared.entry.Act.{Act}
-use Rattle.cord_board.specs.declared.entry.Act.TheVariants.{Put, Take, Peek, Swap}
-use Rattle.cord_board.specs.declared.view.Deed.{Deed}
+use Rattle.plain_cord.specs.declared.history.Act.{Act}
+use Rattle.plain_cord.specs.declared.history.Act.TheVariants.{Put, Take, Peek, Swap}
+use Rattle.plain_cord.specs.declared.deed.Deed.{Deed}
 use Rattle.cord_board.specs.declared.view.BoardView.{BoardView}
 use Rattle.cord_board.specs.declared.view.BoardView.TheVariants.{Root, Session}
 use Rattle.cord_board.specs.Deeds.{length_set}
-use Rattle.cord_board.specs.Log.{deed, after_of, IsProper, cells_after, entry_of, emptied, empty_cells, Acts, Clears}
+use Rattle.plain_cord.specs.Deeds.{deed, after_of, IsProper, cells_after, entry_of, empty_cells}
+use Rattle.cord_board.specs.Log.{emptied, Acts, Clears}
 use Rattle.cord_board.specs.Rule.{value_of, all_left, Fits, Stands, Acted, Cleared, Leaves, IsLog, CellHeld}
 use Rattle.cord_board.specs.Views.{has, entries_left, session_of, mine_of, gave_of, joined_of, cleared_of, IsSession, IsRoot, IsLast, CanAct, next_place, Did, gathered}
 use Rattle.cord_board.specs.Voices.{left_among, all_left_set, speaks_in}

@@ -5,8 +5,8 @@ use mathlib.Core.Logic.{dite}
 use mathlib.Core.Option.{some, some-injective, some-ne-none}
 use native.Mathlib.Decide.{ℕ_discrete}
 use lib.ListN.{get_elem?}
-use Rattle.cord_board.specs.declared.view.Deed.{Deed}
-use Rattle.cord_board.specs.Log.{after_of, IsProper, cells_after, IsLegal, InOrder, of_session}
+use Rattle.plain_cord.specs.declared.deed.Deed.{Deed}
+use Rattle.plain_cord.specs.Deeds.{after_of, IsProper, cells_after, IsLegal, InOrder, of_session}
 use Rattle.cord_board.specs.Views.{has}
 
 pub off : false ≡ true → ⊥

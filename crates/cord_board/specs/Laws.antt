@@ -7,10 +7,11 @@ use lib.ListN.{get_elem?}
 use Rattle.atomic_table.proofs.Lists.{set_else}
 use Rattle.turn_desk.specs.Spots.{Spot, home, out}
 use Rattle.cord_board.specs.declared.cells.Cells.{Cells}
-use Rattle.cord_board.specs.declared.view.Deed.{Deed}
+use Rattle.plain_cord.specs.declared.deed.Deed.{Deed}
 use Rattle.cord_board.specs.declared.view.BoardView.{BoardView}
 use Rattle.cord_board.specs.Deeds.{off, has_less, length_set, at_snoc_place, after_more, legal_more, of_same, of_other, numbered_more}
-use Rattle.cord_board.specs.Log.{after_of, cells_after, of_session, entry_of, emptied, empty_cells}
+use Rattle.plain_cord.specs.Deeds.{after_of, cells_after, of_session, entry_of, empty_cells}
+use Rattle.cord_board.specs.Log.{emptied}
 use Rattle.cord_board.specs.Rule.{value_of, left_of, all_left, Replays, Speaks, Fits, Stands, Acted, Cleared, Leaves, Gives, Joins}
 use Rattle.cord_board.specs.Views.{has}
 use Rattle.cord_board.specs.Voices.{fits_set, without, others_left, others_cleared, each_given, others_given, each_joined, others_joined, all_left_set, all_left_more}

@@ -4,11 +4,12 @@ use mathlib.Core.Option.{some}
 use lib.ListN.{get_elem?}
 use Rattle.turn_desk.specs.Spots.{Spot, home, out}
 use Rattle.cord_board.specs.declared.cells.Cells.{Cells}
-use Rattle.cord_board.specs.declared.entry.Entry.{Entry}
-use Rattle.cord_board.specs.declared.view.Deed.{Deed}
+use Rattle.plain_cord.specs.declared.history.Entry.{Entry}
+use Rattle.plain_cord.specs.declared.deed.Deed.{Deed}
 use Rattle.cord_board.specs.declared.view.BoardView.{BoardView}
 use Rattle.cord_board.specs.declared.view.BoardView.TheVariants.{Root, Session}
-use Rattle.cord_board.specs.Log.{cells_after, IsLegal, InOrder, of_session, entry_of, emptied, empty_cells, Acts, Clears}
+use Rattle.plain_cord.specs.Deeds.{cells_after, IsLegal, InOrder, of_session, entry_of, empty_cells}
+use Rattle.cord_board.specs.Log.{emptied, Acts, Clears}
 use Rattle.cord_board.specs.Views.{has, came_back, mine_in, entries_left}
 
 module _ {C : Type 0} where

@@ -1,6 +1,6 @@
 -- What a pass knows.
 use Rattle.std.specs.Prelude.{◌≡◌, ◌<◌, ℕ, ◌+◌, ◌-◌, List, [], ◌∷◌, ◌++◌, ◌==◌, ◌||◌, cond, Bool, true, false, length}
-use Rattle.cord_board.specs.declared.view.Deed.{Deed}
+use Rattle.plain_cord.specs.declared.deed.Deed.{Deed}
 use Rattle.cord_board.specs.declared.view.BoardView.{BoardView}
 use Rattle.cord_board.specs.declared.view.BoardView.TheVariants.{Root, Session}
 

@@ -1,15 +1,15 @@
 //! What a session does to a cell. Each action is done when its turn is left, and its entry stands then.
 ghost use Rattle.std.specs.Prelude.{◌≡◌, ◌<◌, ◌∷◌, IsNone, IsSomeAnd, MatchOption, MatchResult, Option, Some, None};
-ghost use Rattle.cord_board.specs.Log.{deed};
+ghost use Rattle.plain_cord.specs.Deeds.{deed};
 ghost use Rattle.cord_board.specs.Passes.{board_view, IsOn};
 ghost use Rattle.cord_board.specs.Rule.{CellHeld};
 ghost use Rattle.cord_board.specs.Views.{entries_left, session_of, gave_of, joined_of, cleared_of, next_place, CanAct, Did, IsLast};
 ghost use Rattle.cord_board.specs.declared.view.BoardView.TheVariants.{Root};
 
 use crate::board::Board;
-use crate::entry::Act;
 use crate::item::{BoardItem, Twin};
 use crate::passes::BoardPass;
+use plain_cord::Act;
 use std::sync::Wait;
 
 impl<C: BoardItem> Board<C> {

@@ -1,9 +1,10 @@
 //! The cells with their history, which lie on the desk.
 ghost use Rattle.std.specs.Prelude.{◌≡◌, ◌<◌, ◌++◌, ◌∷◌, [], vec_len, vec_capacity, option_map, IsNone, IsSomeAnd, MatchOption, MatchResult, Option, Some, None};
-ghost use Rattle.cord_board.specs.Log.{deed, Acts, Clears};
+ghost use Rattle.plain_cord.specs.Deeds.{deed};
+ghost use Rattle.cord_board.specs.Log.{Acts, Clears};
 
-use crate::entry::{Act, Entry};
 use crate::item::{BoardItem, Twin};
+use plain_cord::{Act, Entry};
 use std::mem;
 use std::snapshot::Snapshot;
 

@@ -7,10 +7,10 @@ ghost use Rattle.cord_board.specs.declared.view.BoardView.TheVariants.{Root};
 
 use crate::board::Board;
 use crate::cells::Cells;
-use crate::entry::Entry;
 use crate::item::BoardItem;
 use crate::passes::BoardPass;
 use cord_port::Memory;
+use plain_cord::Entry;
 use std::alloc::Global;
 use std::snapshot::Snapshot;
 use turn_desk::{Desk, DeskRefused};

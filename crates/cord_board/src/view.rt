@@ -1,16 +1,6 @@
-//! What a pass knows. No value of these types is made.
-use crate::entry::Act;
+//! What a pass knows. No value of this type is made.
+use plain_cord::Deed;
 use std::collections::LinkedList;
-
-/// An action with its items: the one that came into the cell, if one did, and the one that lay there.
-pub struct Deed<C> {
-    pub session: u16,
-    pub place: u32,
-    pub act: Act,
-    pub cell: u8,
-    pub came: Option<C>,
-    pub was: Option<C>,
-}
 
 /// What a pass knows; the first number is that of the entries left.
 pub enum BoardView<C> {
