@@ -1,3 +1,4 @@
+pub mod DeedMaps
 pub mod MergeLaws
 pub mod OrderLaws
 pub mod PlaceLaws
