@@ -34,6 +34,15 @@ at_snoc_place [] b u (suc j) n len e = absurd (some-ne-none u (sym e))
 at_snoc_place (x ∷ xs) b u zero n len e = inl (tt, e)
 at_snoc_place (x ∷ xs) b u (suc j) n len e = ⊎_elim (λ t. inl t) (λ (t : (j ≡ length xs) × (b ≡ u)). inr (ap suc t.0 ∙ len, t.1)) (at_snoc_place xs b u j (length xs) refl e)
 
+-- what was found in a cell goes back into it
+pub set_back : {A : Type 0} (xs : List A) (i : ℕ) (a b : A) → slice_get xs i ≡ Some a → slice_set (slice_set xs i b) i a ≡ xs
+set_back [] i a b e = refl
+set_back (x ∷ xs) zero a b e = ap (λ z. z ∷ xs) (sym (is x a e))
+  where
+    is : {A : Type 0} (x a : A) → Some x ≡ Some a → x ≡ a
+    is x a e = cc
+set_back (x ∷ xs) (suc i) a b e = ap (λ z. x ∷ z) (set_back xs i a b e)
+
 module _ {C : Type 0} where
   pub after_more : (cs : List (Option C)) (ds : List (Deed C)) (d : Deed C) → cells_after cs (ds ++ d ∷ []) ≡ slice_set (cells_after cs ds) d.cell (after_of d.act d.came d.was)
   after_more cs [] d = refl

@@ -5,6 +5,16 @@ use Rattle.plain_cord.specs.Deeds.{after_of, IsProper, entry_of}
 use Rattle.cord_board.specs.declared.cells.Cells.{Cells}
 
 module _ {C : Type 0} where
+  -- the cells of clearings, each of which has its cell and what was found in it; the last one stands first
+  abbrev pub cells_in : List (ℕ × Option C) → List ℕ
+  cells_in [] = []
+  cells_in (k ∷ ks) = k.0 ∷ cells_in ks
+
+  -- the cells with what was found in those that were cleared
+  abbrev pub put_back : List (ℕ × Option C) → List (Option C) → List (Option C)
+  put_back [] cs = cs
+  put_back (k ∷ ks) cs = put_back ks (slice_set cs k.0 k.1)
+
   -- the cells without the items of those that were cleared
   abbrev pub emptied : List ℕ → List (Option C) → List (Option C)
   emptied [] cs = cs
