@@ -34,4 +34,4 @@ module _ {C : Type 0} where
     pub cells : y.cells.items ≡ slice_set x.cells.items cell None
     pub history : y.history.items ≡ x.history.items
     pub room : vec_capacity y.history ≡ vec_capacity x.history
-    pub told : y.cleared.value ≡ cell
+    pub told : y.cleared ≡ cell

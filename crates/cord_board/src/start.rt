@@ -14,7 +14,6 @@ use crate::passes::BoardPass;
 use cord_port::Memory;
 use plain_cord::Entry;
 use std::alloc::Global;
-use std::snapshot::Snapshot;
 use turn_desk::{Desk, DeskRefused};
 
 impl<C: BoardItem + Drop> Board<C> {
@@ -80,7 +79,7 @@ fn fresh_cells<C: Drop>(alloc: Global, entries: usize) -> Result<Cells<C>, Memor
     Ok(Cells {
         cells,
         history,
-        cleared: Snapshot::of(&0),
+        cleared: 0,
     })
 }
 
