@@ -1,5 +1,5 @@
 -- What the proof of `Board::finish` needs beyond the search.
-use Rattle.std.proofs.Common.{sym, ap, ◌∙◌, subst}
+use Rattle.std.proofs.Common.{sym, ◌∙◌, subst}
 use Rattle.turn_desk.specs.Passes.{desk_view}
 use Rattle.cord_board.specs.Rule.{IsEnd}
 use Rattle.cord_board.specs.Views.{gave_of, joined_of, clearings_of}
