@@ -12,7 +12,7 @@ use std::mem;
 pub struct Cells<C> {
     pub(crate) cells: Vec<Option<C>>,
     pub(crate) history: Vec<Entry>,
-    // The cell that was cleared last, by which a clause tells what leaving the turn told.
+    // The cell that was cleared last. Contracts read it, to know of a turn that cleared a cell which one that was.
     pub(crate) cleared: u8,
 }
 
