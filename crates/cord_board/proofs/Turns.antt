@@ -7,15 +7,16 @@ use Rattle.atomic_table.proofs.Lists.{set_else}
 use Rattle.turn_desk.specs.Agreements.{Agreed, AgreedBoth}
 use Rattle.turn_desk.specs.Spots.{Spot, home}
 use Rattle.cord_board.specs.declared.cells.Cells.{Cells}
-use Rattle.cord_board.specs.declared.entry.Act.{Act}
-use Rattle.cord_board.specs.declared.entry.Act.TheVariants.{Put, Take, Peek, Swap}
-use Rattle.cord_board.specs.declared.view.Deed.{Deed}
+use Rattle.plain_cord.specs.declared.history.Act.{Act}
+use Rattle.plain_cord.specs.declared.history.Act.TheVariants.{Put, Take, Peek, Swap}
+use Rattle.plain_cord.specs.declared.deed.Deed.{Deed}
 use Rattle.cord_board.specs.declared.view.BoardView.{BoardView}
 use Rattle.cord_board.specs.declared.view.BoardView.TheVariants.{Root, Session}
 use Rattle.cord_board.specs.Deeds.{length_set}
-use Rattle.cord_board.specs.Log.{deed, after_of, IsProper, cells_after, entry_of, emptied, empty_cells, Acts, Clears}
+use Rattle.plain_cord.specs.Deeds.{deed, after_of, IsProper, cells_after, entry_of, empty_cells}
+use Rattle.cord_board.specs.Log.{cells_in, emptied, Acts, Clears}
 use Rattle.cord_board.specs.Rule.{value_of, all_left, Fits, Stands, Acted, Cleared, Leaves, IsLog, CellHeld}
-use Rattle.cord_board.specs.Views.{has, entries_left, session_of, mine_of, gave_of, joined_of, cleared_of, IsSession, IsRoot, IsLast, CanAct, next_place, Did, gathered}
+use Rattle.cord_board.specs.Views.{has, entries_left, session_of, mine_of, gave_of, joined_of, clearings_of, cleared_of, IsSession, IsRoot, IsLast, CanAct, next_place, Did, gathered}
 use Rattle.cord_board.specs.Voices.{left_among, all_left_set, speaks_in}
 
 length_mapped : {A B : Type 0} (f : A → B) (xs : List A) → length (map f xs) ≡ length xs
@@ -35,20 +36,20 @@ unfolding head_or tail
 same_last [] a b e = ap (head_or a) e
 same_last (x ∷ xs) a b e = same_last xs a b (ap tail e)
 
-get_set : {A : Type 0} (xs : List A) (i : ℕ) (a : A) → i < length xs → slice_get (set xs i a) i ≡ Some a
+pub get_set : {A : Type 0} (xs : List A) (i : ℕ) (a : A) → i < length xs → slice_get (set xs i a) i ≡ Some a
 get_set [] i a h = absurd (omega arith)
 get_set (x ∷ xs) zero a h = refl
 get_set (x ∷ xs) (suc i) a h = get_set xs i a (omega arith)
 
-some_is : {A : Type 0} (a b : A) → Some a ≡ Some b → a ≡ b
+pub some_is : {A : Type 0} (a b : A) → Some a ≡ Some b → a ≡ b
 some_is a b e = cc
 
 module _ {C : Type 0} where
-  length_after : (cs : List (Option C)) (ds : List (Deed C)) → length (cells_after cs ds) ≡ length cs
+  pub length_after : (cs : List (Option C)) (ds : List (Deed C)) → length (cells_after cs ds) ≡ length cs
   length_after cs [] = refl
   length_after cs (d ∷ ds) = length_after (slice_set cs d.cell (after_of d.act d.came d.was)) ds ∙ length_set cs d.cell (after_of d.act d.came d.was)
 
-  length_emptied : (ks : List ℕ) (cs : List (Option C)) → length (emptied ks cs) ≡ length cs
+  pub length_emptied : (ks : List ℕ) (cs : List (Option C)) → length (emptied ks cs) ≡ length cs
   length_emptied [] cs = refl
   length_emptied (k ∷ ks) cs = length_set (emptied ks cs) k None ∙ length_emptied ks cs
 
@@ -56,7 +57,7 @@ module _ {C : Type 0} where
   one_spot zero z y e = some-injective z y e
   one_spot (suc l) z y e = absurd (some-ne-none y (sym e))
 
-  not_root : (v : BoardView C) (n p : ℕ) (mine : List (Deed C)) (m : ℕ) (gave : List ℕ) (joined : List (ℕ × List (Deed C))) (cleared : List ℕ) → v ≡ Session n p mine → v ≡ Root m gave joined cleared → ⊥
+  not_root : (v : BoardView C) (n p : ℕ) (mine : List (Deed C)) (m : ℕ) (gave : List ℕ) (joined : List (ℕ × List (Deed C))) (cleared : List (ℕ × Option C)) → v ≡ Session n p mine → v ≡ Root m gave joined cleared → ⊥
   not_root v n p mine m gave joined cleared e f = cc
 
   -- the item that came is fixed by what it did
@@ -85,9 +86,9 @@ module _ {C : Type 0} where
   swapped_pass v w session made cell item (Err back) did can is count few = acted_pass v w (deed session (made + 1) Swap cell None None) session made did.1 can is count few
 
   -- after a cell was cleared
-  pub cleared_pass : (v w : BoardView C) (session made cell : ℕ) → w ≡ Root (entries_left v) (gave_of v) (joined_of v) (cell ∷ cleared_of v) → IsLast v → session ≡ session_of v → made ≡ length (mine_of v) → entries_left v + length (mine_of v) < 2 ^ 32
+  pub cleared_pass : (v w : BoardView C) (session made cell : ℕ) (was : Option C) → w ≡ Root (entries_left v) (gave_of v) (joined_of v) ((cell, was) ∷ clearings_of v) → IsLast v → session ≡ session_of v → made ≡ length (mine_of v) → entries_left v + length (mine_of v) < 2 ^ 32
       → (session ≡ session_of w) × (made ≡ length (mine_of w)) × (entries_left w + length (mine_of w) < 2 ^ 32)
-  cleared_pass v w session made cell after last is count few =
+  cleared_pass v w session made cell was after last is count few =
       let left = ap entries_left after in
       let mine : length (mine_of w) ≡ length (mine_of v) = ap (λ z. length (mine_of z)) after ∙ sym (ap (λ z. length (mine_of z)) last.0) in
       (is ∙ (ap session_of last.0 ∙ sym (ap session_of after)), omega arith, omega arith)
@@ -107,7 +108,7 @@ module _ {C : Type 0} where
     found_cells l x v a =
         let s = a.3 in
         let is : s.spot ≡ home x = one_spot l s.spot (home x) (ap (λ z. get_elem? z l) (sym s.one) ∙ a.4) in
-        ap (λ z. length z.cells.items) (sym (ap value_of is)) ∙ (ap length s.replays.cells ∙ (length_emptied s.cleared (cells_after empty_cells s.log) ∙ length_after empty_cells s.log))
+        ap (λ z. length z.cells.items) (sym (ap value_of is)) ∙ (ap length s.replays.cells ∙ (length_emptied (cells_in s.cleared) (cells_after empty_cells s.log) ∙ length_after empty_cells s.log))
 
     pub found_room : (l : ℕ) (x : Cells C) (v : BoardView C) → Agreed (Stands size) l (home x) v → 0 < entries_left v → vec_len x.history < vec_capacity x.history
     found_room l x v a some_left =
@@ -175,12 +176,12 @@ module _ {C : Type 0} where
 
     pub owes_clear : (l : ℕ) (x y : Cells C) (v v' : BoardView C) (cell : ℕ) (was : Option C) → v' ≡ v → IsLast v → Clears x y cell was → (w : BoardView C) × Leaves size l x y v' w
     owes_clear l x y v v' cell was same last clears = (
-      Root (entries_left v) (gave_of v) (joined_of v) (cell ∷ cleared_of v),
+      Root (entries_left v) (gave_of v) (joined_of v) ((cell, was) ∷ clearings_of v),
       inr record {
         left = entries_left v;
         gave = gave_of v;
         joined = joined_of v;
-        cleared = cleared_of v;
+        cleared = clearings_of v;
         cell = cell;
         was = was;
         before = same ∙ last.0;
@@ -190,21 +191,22 @@ module _ {C : Type 0} where
       },
     )
 
-    pub tells_clear : (l : ℕ) (x y : Cells C) (v v' w : BoardView C) (cell : ℕ) (was : Option C) → v' ≡ v → IsLast v → Clears x y cell was → Leaves size l x y v' w → w ≡ Root (entries_left v) (gave_of v) (joined_of v) (cell ∷ cleared_of v)
+    pub tells_clear : (l : ℕ) (x y : Cells C) (v v' w : BoardView C) (cell : ℕ) (was : Option C) → v' ≡ v → IsLast v → Clears x y cell was → Leaves size l x y v' w → w ≡ Root (entries_left v) (gave_of v) (joined_of v) ((cell, was) ∷ clearings_of v)
     tells_clear l x y v v' w cell was same last clears leaves = ⊎_elim
-        (λ (r : Acted size x y v' w). absurd (not_root v' (r.left + 1) r.by r.mine (entries_left v) (gave_of v) (joined_of v) (cleared_of v) r.before (same ∙ last.0)))
+        (λ (r : Acted size x y v' w). absurd (not_root v' (r.left + 1) r.by r.mine (entries_left v) (gave_of v) (joined_of v) (clearings_of v) r.before (same ∙ last.0)))
         (λ (r : Cleared x y v' w).
         let view = sym (same ∙ last.0) ∙ r.before in
         let is_left : r.left ≡ entries_left v = sym (ap entries_left view) in
         let is_gave : r.gave ≡ gave_of v = sym (ap gave_of view) in
         let is_joined : r.joined ≡ joined_of v = sym (ap joined_of view) in
-        let is_cleared : r.cleared ≡ cleared_of v = sym (ap cleared_of view) in
+        let is_cleared : r.cleared ≡ clearings_of v = sym (ap clearings_of view) in
         let is_cell : r.cell ≡ cell = sym r.clears.told ∙ clears.told in
-        r.after ∙ λ i. Root (is_left i) (is_gave i) (is_joined i) (is_cell i ∷ is_cleared i))
+        let is_was : r.was ≡ was = some_is r.was was (sym r.clears.found ∙ (ap (slice_get x.cells.items) is_cell ∙ clears.found)) in
+        r.after ∙ λ i. Root (is_left i) (is_gave i) (is_joined i) ((is_cell i, is_was i) ∷ is_cleared i))
         leaves
 
     -- the log of the moment when a cell is cleared
-    pub log_of : (spots : List (Spot (Cells C))) (views : List (Option (BoardView C))) (by : ℕ) (v : BoardView C) (s : Stands size spots views) → get_elem? views by ≡ some (Some v) → IsRoot v → IsLog (gave_of v) (joined_of v) s.log × (cleared_of v ≡ s.cleared)
+    pub log_of : (spots : List (Spot (Cells C))) (views : List (Option (BoardView C))) (by : ℕ) (v : BoardView C) (s : Stands size spots views) → get_elem? views by ≡ some (Some v) → IsRoot v → IsLog (gave_of v) (joined_of v) s.log × (clearings_of v ≡ s.cleared)
     log_of spots views by v s at root =
         let fits = subst (λ (z : BoardView C). Fits s.log s.given s.owner by s.cleared s.root (Some z)) root (s.each by (Some v) at) in (
           record {
@@ -221,7 +223,7 @@ module _ {C : Type 0} where
         let s = a.3 in
         let is : s.spot ≡ home x = one_spot l s.spot (home x) (ap (λ z. get_elem? z l) (sym s.one) ∙ a.4) in
         let log = log_of a.0 a.1 a.2 v s a.5 last.0 in
-        let cells : x.cells.items ≡ emptied (cleared_of v) (cells_after empty_cells s.log) = ap (λ z. z.cells.items) (sym (ap value_of is)) ∙ (s.replays.cells ∙ ap (λ z. emptied z (cells_after empty_cells s.log)) (sym log.1)) in
+        let cells : x.cells.items ≡ emptied (cleared_of v) (cells_after empty_cells s.log) = ap (λ z. z.cells.items) (sym (ap value_of is)) ∙ (s.replays.cells ∙ ap (λ z. emptied (cells_in z) (cells_after empty_cells s.log)) (sym log.1)) in
         (s.log, log.0, ap (λ z. slice_get z cell) (sym cells) ∙ clears.found)
 
     -- two passes together have fewer entries than a place can count

@@ -5,8 +5,8 @@ use mathlib.Core.Logic.{dite}
 use mathlib.Core.Option.{some, some-injective, some-ne-none}
 use native.Mathlib.Decide.{ℕ_discrete}
 use lib.ListN.{get_elem?}
-use Rattle.cord_board.specs.declared.view.Deed.{Deed}
-use Rattle.cord_board.specs.Log.{after_of, IsProper, cells_after, IsLegal, InOrder, of_session}
+use Rattle.plain_cord.specs.declared.deed.Deed.{Deed}
+use Rattle.plain_cord.specs.Deeds.{after_of, IsProper, cells_after, IsLegal, InOrder, of_session}
 use Rattle.cord_board.specs.Views.{has}
 
 pub off : false ≡ true → ⊥
@@ -33,6 +33,15 @@ at_snoc_place [] b u zero n len e = inr (len, some-injective b u e)
 at_snoc_place [] b u (suc j) n len e = absurd (some-ne-none u (sym e))
 at_snoc_place (x ∷ xs) b u zero n len e = inl (tt, e)
 at_snoc_place (x ∷ xs) b u (suc j) n len e = ⊎_elim (λ t. inl t) (λ (t : (j ≡ length xs) × (b ≡ u)). inr (ap suc t.0 ∙ len, t.1)) (at_snoc_place xs b u j (length xs) refl e)
+
+-- what was found in a cell goes back into it
+pub set_back : {A : Type 0} (xs : List A) (i : ℕ) (a b : A) → slice_get xs i ≡ Some a → slice_set (slice_set xs i b) i a ≡ xs
+set_back [] i a b e = refl
+set_back (x ∷ xs) zero a b e = ap (λ z. z ∷ xs) (sym (is x a e))
+  where
+    is : {A : Type 0} (x a : A) → Some x ≡ Some a → x ≡ a
+    is x a e = cc
+set_back (x ∷ xs) (suc i) a b e = ap (λ z. x ∷ z) (set_back xs i a b e)
 
 module _ {C : Type 0} where
   pub after_more : (cs : List (Option C)) (ds : List (Deed C)) (d : Deed C) → cells_after cs (ds ++ d ∷ []) ≡ slice_set (cells_after cs ds) d.cell (after_of d.act d.came d.was)

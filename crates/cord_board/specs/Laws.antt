@@ -7,10 +7,11 @@ use lib.ListN.{get_elem?}
 use Rattle.atomic_table.proofs.Lists.{set_else}
 use Rattle.turn_desk.specs.Spots.{Spot, home, out}
 use Rattle.cord_board.specs.declared.cells.Cells.{Cells}
-use Rattle.cord_board.specs.declared.view.Deed.{Deed}
+use Rattle.plain_cord.specs.declared.deed.Deed.{Deed}
 use Rattle.cord_board.specs.declared.view.BoardView.{BoardView}
-use Rattle.cord_board.specs.Deeds.{off, has_less, length_set, at_snoc_place, after_more, legal_more, of_same, of_other, numbered_more}
-use Rattle.cord_board.specs.Log.{after_of, cells_after, of_session, entry_of, emptied, empty_cells}
+use Rattle.cord_board.specs.Deeds.{off, has_less, length_set, at_snoc_place, set_back, after_more, legal_more, of_same, of_other, numbered_more}
+use Rattle.plain_cord.specs.Deeds.{after_of, cells_after, of_session, entry_of, empty_cells}
+use Rattle.cord_board.specs.Log.{cells_in, put_back, emptied}
 use Rattle.cord_board.specs.Rule.{value_of, left_of, all_left, Replays, Speaks, Fits, Stands, Acted, Cleared, Leaves, Gives, Joins}
 use Rattle.cord_board.specs.Views.{has}
 use Rattle.cord_board.specs.Voices.{fits_set, without, others_left, others_cleared, each_given, others_given, each_joined, others_joined, all_left_set, all_left_more}
@@ -56,8 +57,9 @@ module _ {C : Type 0} (size : C → ℕ) where
       let few = s.few in
       let same = a.acts.room in
       let owns : s.owner d.session ≡ by = ap s.owner a.session ∙ speaks.1 in
-      let was_cells : x.cells.items ≡ cells_after empty_cells s.log = was.cells ∙ ap (λ z. emptied z (cells_after empty_cells s.log)) fits.1 in
+      let was_cells : x.cells.items ≡ cells_after empty_cells s.log = was.cells ∙ ap (λ z. emptied (cells_in z) (cells_after empty_cells s.log)) fits.1 in
       let place : d.place ≡ length (of_session d.session s.log) + 1 = a.place ∙ sym (ap (λ (z : ℕ). length (of_session z s.log) + 1) a.session ∙ ap (λ z. length z + 1) speaks.2) in
+      let now_cells = a.acts.cells ∙ (ap (λ z. slice_set z d.cell (after_of d.act d.came d.was)) was_cells ∙ sym (after_more empty_cells s.log d)) in
       record {
         log = s.log ++ d ∷ [];
         cleared = s.cleared;
@@ -67,7 +69,8 @@ module _ {C : Type 0} (size : C → ℕ) where
         spot = home y;
         one = one;
         replays = record {
-          cells = a.acts.cells ∙ (ap (λ z. slice_set z d.cell (after_of d.act d.came d.was)) was_cells ∙ (sym (after_more empty_cells s.log d) ∙ ap (λ z. emptied z (cells_after empty_cells (s.log ++ d ∷ []))) (sym fits.1)));
+          cells = now_cells ∙ ap (λ z. emptied (cells_in z) (cells_after empty_cells (s.log ++ d ∷ []))) (sym fits.1);
+          whole = ap (λ z. put_back z y.cells.items) fits.1 ∙ now_cells;
           history = a.acts.history ∙ (ap (λ z. z ++ entry_of size d ∷ []) was.history ∙ sym (map-append (entry_of size) s.log (d ∷ [])));
           legal = legal_more empty_cells s.log d was.legal (ap (λ z. slice_get z d.cell) (sym was_cells) ∙ a.acts.found) a.acts.proper;
         };
@@ -95,7 +98,7 @@ module _ {C : Type 0} (size : C → ℕ) where
       let same = a.clears.room in
       record {
         log = s.log;
-        cleared = a.cell ∷ s.cleared;
+        cleared = (a.cell, a.was) ∷ s.cleared;
         given = s.given;
         owner = s.owner;
         root = s.root;
@@ -103,6 +106,7 @@ module _ {C : Type 0} (size : C → ℕ) where
         one = ap (λ z. slice_set z l (home y)) s.one ∙ is.1;
         replays = record {
           cells = a.clears.cells ∙ ap (λ z. slice_set z a.cell None) was.cells;
+          whole = ap (λ z. put_back s.cleared (slice_set z a.cell a.was)) a.clears.cells ∙ (ap (put_back s.cleared) (set_back x.cells.items a.cell a.was None a.clears.found) ∙ was.whole);
           history = a.clears.history ∙ was.history;
           legal = was.legal;
         };
@@ -110,9 +114,9 @@ module _ {C : Type 0} (size : C → ℕ) where
         few = omega arith;
         numbered = s.numbered;
         unborn = s.unborn;
-        each = fits_set s.log s.log s.given s.given s.owner s.owner s.cleared (a.cell ∷ s.cleared) s.root views by (Some w)
-            (subst (λ (z : BoardView C). Fits s.log s.given s.owner by (a.cell ∷ s.cleared) s.root (Some z)) (sym a.after) (root_fits.0, root_fits.1, root_fits.2, ap (λ z. a.cell ∷ z) root_fits.3))
-            (others_cleared s.log s.given s.owner s.cleared s.root by a.cell a.joined root_fits.0 root_fits.2 (λ q g. a.back q (ap (has q) root_fits.1 ∙ g)))
+        each = fits_set s.log s.log s.given s.given s.owner s.owner s.cleared ((a.cell, a.was) ∷ s.cleared) s.root views by (Some w)
+            (subst (λ (z : BoardView C). Fits s.log s.given s.owner by ((a.cell, a.was) ∷ s.cleared) s.root (Some z)) (sym a.after) (root_fits.0, root_fits.1, root_fits.2, ap (λ z. (a.cell, a.was) ∷ z) root_fits.3))
+            (others_cleared s.log s.given s.owner s.cleared s.root by (a.cell, a.was) a.joined root_fits.0 root_fits.2 (λ q g. a.back q (ap (has q) root_fits.1 ∙ g)))
             s.each;
       }
 

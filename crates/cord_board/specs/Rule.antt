@@ -4,11 +4,12 @@ use mathlib.Core.Option.{some}
 use lib.ListN.{get_elem?}
 use Rattle.turn_desk.specs.Spots.{Spot, home, out}
 use Rattle.cord_board.specs.declared.cells.Cells.{Cells}
-use Rattle.cord_board.specs.declared.entry.Entry.{Entry}
-use Rattle.cord_board.specs.declared.view.Deed.{Deed}
+use Rattle.plain_cord.specs.declared.history.Entry.{Entry}
+use Rattle.plain_cord.specs.declared.deed.Deed.{Deed}
 use Rattle.cord_board.specs.declared.view.BoardView.{BoardView}
 use Rattle.cord_board.specs.declared.view.BoardView.TheVariants.{Root, Session}
-use Rattle.cord_board.specs.Log.{cells_after, IsLegal, InOrder, of_session, entry_of, emptied, empty_cells, Acts, Clears}
+use Rattle.plain_cord.specs.Deeds.{cells_after, IsLegal, InOrder, of_session, entry_of, empty_cells}
+use Rattle.cord_board.specs.Log.{cells_in, put_back, emptied, Acts, Clears}
 use Rattle.cord_board.specs.Views.{has, came_back, mine_in, entries_left}
 
 module _ {C : Type 0} where
@@ -16,9 +17,10 @@ module _ {C : Type 0} where
   value_of (home x) = x
   value_of (out x) = x
 
-  -- the value is what these actions make of empty cells, and what was cleared is empty
-  pub record Replays (size : C → ℕ) (log : List (Deed C)) (cleared : List ℕ) (x : Cells C) : Type 0 where
-    pub cells : x.cells.items ≡ emptied cleared (cells_after empty_cells log)
+  -- the value is what these actions make of empty cells, and what was cleared is empty, and put back it makes the cells whole
+  pub record Replays (size : C → ℕ) (log : List (Deed C)) (cleared : List (ℕ × Option C)) (x : Cells C) : Type 0 where
+    pub cells : x.cells.items ≡ emptied (cells_in cleared) (cells_after empty_cells log)
+    pub whole : put_back cleared x.cells.items ≡ cells_after empty_cells log
     pub history : x.history.items ≡ map (entry_of size) log
     pub legal : IsLegal empty_cells log
 
@@ -32,7 +34,7 @@ module _ {C : Type 0} where
     SpeaksEach (m ∷ ms) = Speaks m.0 m.1 × SpeaksEach ms
 
     -- what a view says of the board; while a session is out, nothing is cleared
-    abbrev pub Fits : List ℕ → ℕ → Option (BoardView C) → Type 0
+    abbrev pub Fits : List (ℕ × Option C) → ℕ → Option (BoardView C) → Type 0
     Fits cleared root None = Unit {0}
     Fits cleared root (Some (Session n p mine)) = Speaks p mine × (cleared ≡ [])
     Fits cleared root (Some (Root n gave joined emptied)) = (by ≡ root) × (gave ≡ given) × SpeaksEach joined × (emptied ≡ cleared)
@@ -48,7 +50,7 @@ module _ {C : Type 0} where
 
   pub record Stands (size : C → ℕ) (spots : List (Spot (Cells C))) (views : List (Option (BoardView C))) : Type 0 where
     pub log : List (Deed C)
-    pub cleared : List ℕ
+    pub cleared : List (ℕ × Option C)
     pub given : List ℕ
     pub owner : ℕ → ℕ
     pub root : ℕ
@@ -78,11 +80,11 @@ module _ {C : Type 0} where
     pub left : ℕ
     pub gave : List ℕ
     pub joined : List (ℕ × List (Deed C))
-    pub cleared : List ℕ
+    pub cleared : List (ℕ × Option C)
     pub cell : ℕ
     pub was : Option C
     pub before : v ≡ Root left gave joined cleared
-    pub after : w ≡ Root left gave joined (cell ∷ cleared)
+    pub after : w ≡ Root left gave joined ((cell, was) ∷ cleared)
     pub back : (p : ℕ) → has p gave ≡ true → came_back joined p ≡ true
     pub clears : Clears x y cell was
 
@@ -109,7 +111,7 @@ module _ {C : Type 0} where
     pub mine : List (Deed C)
     pub gave : List ℕ
     pub joined : List (ℕ × List (Deed C))
-    pub cleared : List ℕ
+    pub cleared : List (ℕ × Option C)
     pub root : v ≡ Root n gave joined cleared
     pub session : w ≡ Session m who mine
     pub after : both ≡ Root (n + m) gave (joined ++ (who, mine) ∷ []) cleared
@@ -128,3 +130,7 @@ module _ {C : Type 0} where
   -- the cell held what such a list made of it, if it wasn't cleared before
   abbrev pub CellHeld : List ℕ → List (ℕ × List (Deed C)) → List ℕ → ℕ → Option C → Type 0
   CellHeld gave joined cleared cell was = (log : List (Deed C)) × IsLog gave joined log × (slice_get (emptied cleared (cells_after empty_cells log)) cell ≡ Some was)
+
+  -- the history is that of such a list, which also leaves the cells as they are when all that was cleared is put back into empty ones
+  abbrev pub IsEnd : (C → ℕ) → List Entry → List ℕ → List (ℕ × List (Deed C)) → List (ℕ × Option C) → Type 0
+  IsEnd size history gave joined cleared = (log : List (Deed C)) × IsLog gave joined log × (history ≡ map (entry_of size) log) × (put_back cleared empty_cells ≡ cells_after empty_cells log)

@@ -1,8 +1,9 @@
 -- What a pass knows.
-use Rattle.std.specs.Prelude.{◌≡◌, ◌<◌, ℕ, ◌+◌, ◌-◌, List, [], ◌∷◌, ◌++◌, ◌==◌, ◌||◌, cond, Bool, true, false, length}
-use Rattle.cord_board.specs.declared.view.Deed.{Deed}
+use Rattle.std.specs.Prelude.{◌≡◌, ◌<◌, ℕ, ◌+◌, ◌-◌, List, [], ◌∷◌, ◌++◌, ◌==◌, ◌||◌, cond, Bool, true, false, length, Option}
+use Rattle.plain_cord.specs.declared.deed.Deed.{Deed}
 use Rattle.cord_board.specs.declared.view.BoardView.{BoardView}
 use Rattle.cord_board.specs.declared.view.BoardView.TheVariants.{Root, Session}
+use Rattle.cord_board.specs.Log.{cells_in}
 
 abbrev pub has : ℕ → List ℕ → Bool
 has p [] = false
@@ -33,10 +34,14 @@ module _ {C : Type 0} where
   joined_of (Session n p mine) = []
   joined_of (Root n gave joined cleared) = joined
 
-  -- the cells that were cleared
+  -- the cells that were cleared, each with what lay in it, the last one first
+  abbrev pub clearings_of : BoardView C → List (ℕ × Option C)
+  clearings_of (Session n p mine) = []
+  clearings_of (Root n gave joined cleared) = cleared
+
+  -- the cells alone
   abbrev pub cleared_of : BoardView C → List ℕ
-  cleared_of (Session n p mine) = []
-  cleared_of (Root n gave joined cleared) = cleared
+  cleared_of v = cells_in (clearings_of v)
 
   -- a session's pass
   abbrev pub IsSession : BoardView C → Type 0
@@ -44,7 +49,7 @@ module _ {C : Type 0} where
 
   -- the pass of `start`
   abbrev pub IsRoot : BoardView C → Type 0
-  IsRoot v = v ≡ Root (entries_left v) (gave_of v) (joined_of v) (cleared_of v)
+  IsRoot v = v ≡ Root (entries_left v) (gave_of v) (joined_of v) (clearings_of v)
 
   -- a session's pass that has an entry left
   abbrev pub CanAct : BoardView C → Type 0

@@ -3,7 +3,7 @@ use Rattle.std.proofs.Common.{◌≡◌, ◌≢◌, ℕ, zero, suc, ◌+◌, ◌
 use mathlib.Core.Option.{some, some-injective, some-ne-none}
 use lib.ListN.{get_elem?}
 use Rattle.atomic_table.proofs.Lists.{at_set}
-use Rattle.cord_board.specs.declared.view.Deed.{Deed}
+use Rattle.plain_cord.specs.declared.deed.Deed.{Deed}
 use Rattle.cord_board.specs.declared.view.BoardView.{BoardView}
 use Rattle.cord_board.specs.declared.view.BoardView.TheVariants.{Root, Session}
 use Rattle.cord_board.specs.Deeds.{off, or_true, of_other}
@@ -12,7 +12,7 @@ use Rattle.cord_board.specs.Views.{has, came_back, mine_in}
 
 module _ {C : Type 0} where
   -- after the change of one seat
-  pub fits_set : (log log' : List (Deed C)) (given given' : List ℕ) (owner owner' : ℕ → ℕ) (cleared cleared' : List ℕ) (root : ℕ) (views : List (Option (BoardView C))) (by : ℕ) (w : Option (BoardView C))
+  pub fits_set : (log log' : List (Deed C)) (given given' : List ℕ) (owner owner' : ℕ → ℕ) (cleared cleared' : List (ℕ × Option C)) (root : ℕ) (views : List (Option (BoardView C))) (by : ℕ) (w : Option (BoardView C))
       → Fits log' given' owner' by cleared' root w
       → ((j : ℕ) (v : Option (BoardView C)) → j ≢ by → Fits log given owner j cleared root v → Fits log' given' owner' j cleared' root v)
       → ((j : ℕ) (v : Option (BoardView C)) → get_elem? views j ≡ some v → Fits log given owner j cleared root v)
@@ -23,7 +23,7 @@ module _ {C : Type 0} where
       (at_set views by j w v e)
 
   -- after the change of one seat, where another goes
-  pub without : (log : List (Deed C)) (given : List ℕ) (owner owner' : ℕ → ℕ) (cleared : List ℕ) (root : ℕ) (views : List (Option (BoardView C))) (by other : ℕ) (w : Option (BoardView C))
+  pub without : (log : List (Deed C)) (given : List ℕ) (owner owner' : ℕ → ℕ) (cleared : List (ℕ × Option C)) (root : ℕ) (views : List (Option (BoardView C))) (by other : ℕ) (w : Option (BoardView C))
       → Fits log given owner' by cleared root w
       → ((j : ℕ) (v : Option (BoardView C)) → j ≢ by → j ≢ other → Fits log given owner j cleared root v → Fits log given owner' j cleared root v)
       → ((j : ℕ) (v : Option (BoardView C)) → get_elem? views j ≡ some v → Fits log given owner j cleared root v)
@@ -53,13 +53,13 @@ module _ {C : Type 0} where
   each_still log given owner by d mine j apart (m ∷ ms) k = (speaks_still log given owner by d mine j apart m.0 m.1 k.0, each_still log given owner by d mine j apart ms k.1)
 
   -- an action of the session p, by the seat that speaks for it, leaves what the others say
-  pub others_left : (log : List (Deed C)) (given : List ℕ) (owner : ℕ → ℕ) (cleared : List ℕ) (root by : ℕ) (d : Deed C) → owner d.session ≡ by → (j : ℕ) (v : Option (BoardView C)) → j ≢ by → Fits log given owner j cleared root v → Fits (log ++ d ∷ []) given owner j cleared root v
+  pub others_left : (log : List (Deed C)) (given : List ℕ) (owner : ℕ → ℕ) (cleared : List (ℕ × Option C)) (root by : ℕ) (d : Deed C) → owner d.session ≡ by → (j : ℕ) (v : Option (BoardView C)) → j ≢ by → Fits log given owner j cleared root v → Fits (log ++ d ∷ []) given owner j cleared root v
   others_left log given owner cleared root by d mine j None apart k = tt
   others_left log given owner cleared root by d mine j (Some (Session n p m)) apart k = (speaks_still log given owner by d mine j apart p m k.0, k.1)
   others_left log given owner cleared root by d mine j (Some (Root n g ms cs)) apart k = (k.0, k.1, each_still log given owner by d mine j apart ms k.2, k.3)
 
   -- when all sessions are back, only the root's seat says anything
-  pub others_cleared : (log : List (Deed C)) (given : List ℕ) (owner : ℕ → ℕ) (cleared : List ℕ) (root by cell : ℕ) (joined : List (ℕ × List (Deed C))) → by ≡ root → SpeaksEach log given owner by joined → ((p : ℕ) → has p given ≡ true → came_back joined p ≡ true)
+  pub others_cleared : (log : List (Deed C)) (given : List ℕ) (owner : ℕ → ℕ) (cleared : List (ℕ × Option C)) (root by : ℕ) (cell : ℕ × Option C) (joined : List (ℕ × List (Deed C))) → by ≡ root → SpeaksEach log given owner by joined → ((p : ℕ) → has p given ≡ true → came_back joined p ≡ true)
       → (j : ℕ) (v : Option (BoardView C)) → j ≢ by → Fits log given owner j cleared root v → Fits log given owner j (cell ∷ cleared) root v
   others_cleared log given owner cleared root by cell joined is speaks back j None apart k = tt
   others_cleared log given owner cleared root by cell joined is speaks back j (Some (Session n p m)) apart k = absurd (apart (sym k.0.1 ∙ (speaks_in log given owner by joined p speaks (back p k.0.0)).1))
@@ -75,7 +75,7 @@ module _ {C : Type 0} where
   each_given log given owner p new fresh j (m ∷ ms) k = (speaks_given log given owner p new fresh j m.0 m.1 k.0, each_given log given owner p new fresh j ms k.1)
 
   -- a new session is one that none spoke for
-  pub others_given : (log : List (Deed C)) (given : List ℕ) (owner : ℕ → ℕ) (cleared : List ℕ) (root p new : ℕ) → has p given ≡ false → (j : ℕ) (v : Option (BoardView C)) → j ≢ root → Fits log given owner j cleared root v
+  pub others_given : (log : List (Deed C)) (given : List ℕ) (owner : ℕ → ℕ) (cleared : List (ℕ × Option C)) (root p new : ℕ) → has p given ≡ false → (j : ℕ) (v : Option (BoardView C)) → j ≢ root → Fits log given owner j cleared root v
       → Fits log (p ∷ given) (λ q. cond (eqb q p) new (owner q)) j cleared root v
   others_given log given owner cleared root p new fresh j None apart k = tt
   others_given log given owner cleared root p new fresh j (Some (Session n q m)) apart k = (speaks_given log given owner p new fresh j q m k.0, k.1)
@@ -99,7 +99,7 @@ module _ {C : Type 0} where
   each_joined log given owner p by [] m k new = (new, tt)
   each_joined log given owner p by (n ∷ ms) m k new = (taken_over log given owner p by n.0 n.1 k.0, each_joined log given owner p by ms m k.1 new)
 
-  pub others_joined : (log : List (Deed C)) (given : List ℕ) (owner : ℕ → ℕ) (cleared : List ℕ) (root p by other : ℕ) → owner p ≡ other → (j : ℕ) (v : Option (BoardView C)) → j ≢ by → j ≢ other → j ≢ root → Fits log given owner j cleared root v → Fits log given (λ r. cond (eqb r p) by (owner r)) j cleared root v
+  pub others_joined : (log : List (Deed C)) (given : List ℕ) (owner : ℕ → ℕ) (cleared : List (ℕ × Option C)) (root p by other : ℕ) → owner p ≡ other → (j : ℕ) (v : Option (BoardView C)) → j ≢ by → j ≢ other → j ≢ root → Fits log given owner j cleared root v → Fits log given (λ r. cond (eqb r p) by (owner r)) j cleared root v
   others_joined log given owner cleared root p by other mine j None apart apart' not k = tt
   others_joined log given owner cleared root p by other mine j (Some (Session n q m)) apart apart' not k = (speaks_joined log given owner p by other mine j q m apart' k.0, k.1)
   others_joined log given owner cleared root p by other mine j (Some (Root n g ms cs)) apart apart' not k = absurd (not k.0)

@@ -1,15 +1,15 @@
 //! What a session does to a cell. Each action is done when its turn is left, and its entry stands then.
 ghost use Rattle.std.specs.Prelude.{◌≡◌, ◌<◌, ◌∷◌, IsNone, IsSomeAnd, MatchOption, MatchResult, Option, Some, None};
-ghost use Rattle.cord_board.specs.Log.{deed};
+ghost use Rattle.plain_cord.specs.Deeds.{deed};
 ghost use Rattle.cord_board.specs.Passes.{board_view, IsOn};
 ghost use Rattle.cord_board.specs.Rule.{CellHeld};
-ghost use Rattle.cord_board.specs.Views.{entries_left, session_of, gave_of, joined_of, cleared_of, next_place, CanAct, Did, IsLast};
+ghost use Rattle.cord_board.specs.Views.{entries_left, session_of, gave_of, joined_of, clearings_of, cleared_of, next_place, CanAct, Did, IsLast};
 ghost use Rattle.cord_board.specs.declared.view.BoardView.TheVariants.{Root};
 
 use crate::board::Board;
-use crate::entry::Act;
 use crate::item::{BoardItem, Twin};
 use crate::passes::BoardPass;
+use plain_cord::Act;
 use std::sync::Wait;
 
 impl<C: BoardItem> Board<C> {
@@ -84,13 +84,14 @@ impl<C: BoardItem> Board<C> {
         out
     }
 
-    /// Takes the item out of the cell without an entry, when every session has come back.
+    /// Takes the item out of the cell without an entry, when every session has come back. `finish` tells of all items that
+    /// were taken so.
     pub fn clear<R: Wait>(&self, rt: &R, pass: &mut BoardPass<C>, cell: u8) -> Option<C>
         requires board { IsOn self.now pass.old }
         requires cell { cell < 64 }
         requires last { IsLast (board_view pass.old) }
         ensures board { IsOn self.now pass.new }
-        ensures cleared { let v = board_view pass.old in board_view pass.new ≡ Root (entries_left v) (gave_of v) (joined_of v) (cell ∷ cleared_of v) }
+        ensures cleared { let v = board_view pass.old in board_view pass.new ≡ Root (entries_left v) (gave_of v) (joined_of v) ((cell, result) ∷ clearings_of v) }
         ensures held { let v = board_view pass.old in CellHeld (gave_of v) (joined_of v) (cleared_of v) cell result }
     {
         let mut turn = self.desk.enter(rt, &mut pass.pass, 0);

@@ -1,7 +1,7 @@
 //! The board, and how its passes are divided and joined.
 ghost use Rattle.std.specs.Prelude.{◌≡◌, ◌-◌, ◌+◌, ◌≤◌, ℕ, false, [], ◌∷◌, ◌++◌};
 ghost use Rattle.turn_desk.specs.Passes.{desk_places};
-ghost use Rattle.cord_board.specs.Views.{has, entries_left, session_of, gave_of, joined_of, mine_of, cleared_of, IsRoot, IsSession};
+ghost use Rattle.cord_board.specs.Views.{has, entries_left, session_of, gave_of, joined_of, mine_of, clearings_of, IsRoot, IsSession};
 ghost use Rattle.cord_board.specs.declared.view.BoardView.TheVariants.{Root, Session};
 
 use crate::item::BoardItem;
@@ -62,7 +62,7 @@ impl<C: BoardItem> Board<C> {
         requires board { IsOn self.now from.old }
         requires root { IsRoot (board_view from.old) }
         requires fresh { has session (gave_of (board_view from.old)) ≡ false }
-        requires uncleared { cleared_of (board_view from.old) ≡ [] }
+        requires uncleared { clearings_of (board_view from.old) ≡ [] }
         requires room { entries ≤ entries_left (board_view from.old) }
         ensures board { IsOn self.now from.new × IsOn self.now result }
         ensures from { let v = board_view from.old in board_view from.new ≡ Root (entries_left v - entries) (session ∷ gave_of v) (joined_of v) [] }
@@ -76,7 +76,7 @@ impl<C: BoardItem> Board<C> {
         requires board { IsOn self.now from.old }
         requires root { IsRoot (board_view from.old) }
         requires fresh { has session (gave_of (board_view from.old)) ≡ false }
-        requires uncleared { cleared_of (board_view from.old) ≡ [] }
+        requires uncleared { clearings_of (board_view from.old) ≡ [] }
         requires room { entries ≤ entries_left (board_view from.old) }
         ensures board { IsOn self.now from.new × IsOn self.now result }
         ensures from { let v = board_view from.old in board_view from.new ≡ Root (entries_left v - entries) (session ∷ gave_of v) (joined_of v) [] }
@@ -96,7 +96,7 @@ impl<C: BoardItem> Board<C> {
         requires root { IsRoot (board_view into.old) }
         requires session { IsSession (board_view other) }
         ensures board { IsOn self.now into.new }
-        ensures into { let v = board_view into.old in let w = board_view other in board_view into.new ≡ Root (entries_left v + entries_left w) (gave_of v) (joined_of v ++ (session_of w, mine_of w) ∷ []) (cleared_of v) }
+        ensures into { let v = board_view into.old in let w = board_view other in board_view into.new ≡ Root (entries_left v + entries_left w) (gave_of v) (joined_of v ++ (session_of w, mine_of w) ∷ []) (clearings_of v) }
     {
         let BoardPass {
             pass,

@@ -1,22 +1,32 @@
 //! The cells with their history, which lie on the desk.
-ghost use Rattle.std.specs.Prelude.{◌≡◌, ◌<◌, ◌++◌, ◌∷◌, [], vec_len, vec_capacity, option_map, IsNone, IsSomeAnd, MatchOption, MatchResult, Option, Some, None};
-ghost use Rattle.cord_board.specs.Log.{deed, Acts, Clears};
+ghost use Rattle.std.specs.Prelude.{◌≡◌, ◌<◌, ◌++◌, ◌∷◌, [], slice_get, slice_set, vec_len, vec_capacity, option_map, IsNone, IsSomeAnd, MatchOption, MatchResult, Option, Some, None};
+ghost use Rattle.plain_cord.specs.Deeds.{deed};
+ghost use Rattle.cord_board.specs.Log.{Acts, Clears};
 
-use crate::entry::{Act, Entry};
 use crate::item::{BoardItem, Twin};
+use plain_cord::{Act, Entry};
 use std::mem;
-use std::snapshot::Snapshot;
 
 /// 64 cells and their history.
 #[derive(Drop)]
 pub struct Cells<C> {
     pub(crate) cells: Vec<Option<C>>,
     pub(crate) history: Vec<Entry>,
-    // The cell that was cleared last, for clauses alone.
-    pub(crate) cleared: Snapshot<u8>,
+    // The cell that was cleared last. Contracts read it, to know of a turn that cleared a cell which one that was.
+    pub(crate) cleared: u8,
 }
 
 impl<C> Cells<C> {
+    // Leaves this in the cell, and gives what lay there.
+    fn exchange(&mut self, cell: u8, item: Option<C>) -> Option<C>
+        requires { cell < vec_len self.old.cells }
+        ensures found { slice_get self.old.cells.items cell ≡ Some result }
+        ensures cells { self.new.cells.items ≡ slice_set self.old.cells.items cell item }
+        ensures same { (self.new.history ≡ self.old.history) × (self.new.cleared ≡ self.old.cleared) }
+    {
+        mem::replace(&mut self.cells[usize::from(cell)], item)
+    }
+
     fn note(&mut self, entry: Entry)
         requires { vec_len self.old.history < vec_capacity self.old.history }
         ensures history { self.new.history.items ≡ self.old.history.items ++ entry ∷ [] }
@@ -31,9 +41,8 @@ impl<C> Cells<C> {
         requires { cell < vec_len self.old.cells }
         ensures { Clears self.old self.new cell result }
     {
-        let was = mem::replace(&mut self.cells[usize::from(cell)], None);
-        self.cleared = Snapshot::of(&cell);
-        was
+        self.cleared = cell;
+        self.exchange(cell, None)
     }
 }
 
@@ -44,7 +53,7 @@ impl<C: BoardItem> Cells<C> {
         ensures { Acts C.length_of self.old self.new (deed session place Act.Put cell (Some item) result) }
     {
         let came = Some(item.size());
-        let was = mem::replace(&mut self.cells[usize::from(cell)], Some(item));
+        let was = self.exchange(cell, Some(item));
         self.note(Entry {
             session,
             place,
@@ -61,7 +70,7 @@ impl<C: BoardItem> Cells<C> {
         requires room { vec_len self.old.history < vec_capacity self.old.history }
         ensures { Acts C.length_of self.old self.new (deed session place Act.Take cell None result) }
     {
-        let was = mem::replace(&mut self.cells[usize::from(cell)], None);
+        let was = self.exchange(cell, None);
         let found = length_in(&was);
         self.note(Entry {
             session,

@@ -4,7 +4,6 @@
 mod actions;
 mod board;
 mod cells;
-mod entry;
 mod item;
 mod passes;
 mod rule;
@@ -15,8 +14,8 @@ mod view;
 
 pub use board::Board;
 pub use cells::Cells;
-pub use entry::{Act, Entry};
 pub use item::{BoardItem, Twin};
 pub use passes::BoardPass;
+pub use plain_cord::{Act, Entry};
 pub use rule::BoardRule;
-pub use view::{BoardView, Deed};
+pub use view::BoardView;

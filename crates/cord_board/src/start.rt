@@ -1,18 +1,19 @@
 //! How a board begins and ends.
-ghost use Rattle.std.specs.Prelude.{◌≡◌, ◌≤◌, ◌<◌, ◌^◌, ℕ, true, [], replicate, vec_capacity, IfOk, None};
+ghost use Rattle.std.specs.Prelude.{◌≡◌, ◌≤◌, ◌<◌, ◌^◌, ℕ, true, false, [], map, replicate, vec_capacity, IfOk, None};
 ghost use Rattle.cord_board.specs.Passes.{board_view, IsOn};
-ghost use Rattle.cord_board.specs.Rule.{IsHistory};
-ghost use Rattle.cord_board.specs.Views.{has, gave_of, joined_of, cleared_of, IsLast};
+ghost use Rattle.plain_cord.specs.Deeds.{entry_of};
+ghost use Rattle.cord_board.specs.Histories.{entries_of, CountUp};
+ghost use Rattle.cord_board.specs.Rule.{IsHistory, IsEnd};
+ghost use Rattle.cord_board.specs.Views.{has, gave_of, joined_of, mine_in, clearings_of, cleared_of, IsLast};
 ghost use Rattle.cord_board.specs.declared.view.BoardView.TheVariants.{Root};
 
 use crate::board::Board;
 use crate::cells::Cells;
-use crate::entry::Entry;
 use crate::item::BoardItem;
 use crate::passes::BoardPass;
 use cord_port::Memory;
+use plain_cord::Entry;
 use std::alloc::Global;
-use std::snapshot::Snapshot;
 use turn_desk::{Desk, DeskRefused};
 
 impl<C: BoardItem + Drop> Board<C> {
@@ -38,12 +39,17 @@ impl<C: BoardItem + Drop> Board<C> {
         }
     }
 
-    /// The history, for the last pass, when each of the 64 cells was cleared.
+    /// The history, for the last pass, when each of the 64 cells was cleared. One list of actions has both its entries and
+    /// the items that lay in the cleared cells.
     pub fn finish(self, pass: BoardPass<C>) -> Vec<Entry>
         requires board { IsOn self pass }
         requires last { IsLast (board_view pass) }
         requires cleared { (k : ℕ) → k < 64 → has k (cleared_of (board_view pass)) ≡ true }
-        ensures { IsHistory C.length_of result.items (gave_of (board_view pass)) (joined_of (board_view pass)) }
+        ensures history { let v = board_view pass in IsHistory C.length_of result.items (gave_of v) (joined_of v) }
+        ensures cleared { let v = board_view pass in IsEnd C.length_of result.items (gave_of v) (joined_of v) (clearings_of v) }
+        ensures own { let v = board_view pass in (p : ℕ) → has p (gave_of v) ≡ true → entries_of p result.items ≡ map (entry_of C.length_of) (mine_in (joined_of v) p) }
+        ensures none { (p : ℕ) → has p (gave_of (board_view pass)) ≡ false → entries_of p result.items ≡ [] }
+        ensures numbered { (p : ℕ) → CountUp 1 (entries_of p result.items) }
     {
         let Board { desk } = self;
         let BoardPass {
@@ -73,7 +79,7 @@ fn fresh_cells<C: Drop>(alloc: Global, entries: usize) -> Result<Cells<C>, Memor
     Ok(Cells {
         cells,
         history,
-        cleared: Snapshot::of(&0),
+        cleared: 0,
     })
 }
 

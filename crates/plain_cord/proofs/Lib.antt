@@ -1,4 +1,5 @@
 pub mod AloneLaws
+pub mod DeedMaps
 pub mod MergeLaws
 pub mod OrderLaws
 pub mod PlaceLaws

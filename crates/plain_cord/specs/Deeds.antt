@@ -56,5 +56,9 @@ module _ {C : Type 0} where
   abbrev pub entry_of : (C → ℕ) → Deed C → Entry
   entry_of size d = record { session = d.session; place = d.place; act = d.act; cell = d.cell; came = option_map size d.came; was = noted_of d.act (option_map size d.was) }
 
+-- the same action on other items
+abbrev pub mapped_deed : {C D : Type 0} → (C → D) → Deed C → Deed D
+mapped_deed f d = record { session = d.session; place = d.place; act = d.act; cell = d.cell; came = option_map f d.came; was = option_map f d.was }
+
 abbrev pub empty_cells : {C : Type 0} → List (Option C)
 empty_cells = replicate 64 None

@@ -16,7 +16,11 @@ where
         requires idle { IsIdle pass }
         ensures { Ended T.agrees pass result.items }
     {
-        let Desk { table, mut room } = self;
+        let Desk {
+            table,
+            sleepers: _,
+            mut room,
+        } = self;
         let count = table.slot_count();
         let mut closed = table.close_with(pass);
         for i in 0..count {

@@ -9,6 +9,7 @@ use atomic_table::{Join, Seat, Split, Table};
 use std::alloc::Global;
 use std::snapshot::Snapshot;
 use std::sync::Wait;
+use std::sync::atomic::{AtomicU64, Ordering};
 use std::thread;
 
 // How often a thread that waits asks again before it sleeps.
@@ -29,6 +30,8 @@ pub struct Desk<T: DeskRule> {
         DeskTable<T>,
         Global,
     >,
+    // How many threads sleep, or are about to: a turn that is left wakes nobody while there are none.
+    pub(crate) sleepers: AtomicU64,
     // Room for the values that `close` gives.
     pub(crate) room: Vec<Option<T::Value>>,
     ghost reserved: { (vec_len room ≡ 0) × (table.shared.table_id.slots ≤ vec_capacity room) },
@@ -90,7 +93,11 @@ impl<T: DeskRule> Desk<T> {
                     patience -= 1;
                     thread::yield_now();
                 }
-                Err(_) => self.table.shared.park(rt, l, 1),
+                Err(_) => {
+                    self.sleepers.fetch_add(1, Ordering::SeqCst);
+                    self.table.shared.park(rt, l, 1);
+                    self.sleepers.fetch_sub(1, Ordering::SeqCst);
+                }
             }
         }
         unreachable!()
@@ -113,7 +120,10 @@ impl<T: DeskRule> Desk<T> {
         let before = self.table.shared.exchange(pass, place, Some(value));
         let None = before else { unreachable!() };
         self.table.shared.store::<Leaving<T>>(pass, place, 0);
-        self.table.shared.wake_one(place);
+        // Whoever counts itself later finds the word free, and doesn't sleep.
+        if self.sleepers.load(Ordering::SeqCst) > 0 {
+            self.table.shared.wake_one(place);
+        }
     }
 
     /// Divides a pass. The views after it are the caller's choice, which the rule must allow.

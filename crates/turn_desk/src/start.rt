@@ -7,6 +7,7 @@ use crate::desk::{Desk, DeskPass};
 use crate::rule::DeskRule;
 use atomic_table::{Refused, Table};
 use std::alloc::{AllocError, Global};
+use std::sync::atomic::AtomicU64;
 
 /// Want of memory. The values come back.
 pub struct DeskRefused<T: DeskRule> {
@@ -41,7 +42,14 @@ where
         };
         match slots_of(alloc, values) {
             Ok(slots) => match Table::new(alloc, words.as_slice(), slots, about) {
-                Ok((table, pass)) => Ok((Desk { table, room }, pass)),
+                Ok((table, pass)) => {
+                    let desk = Desk {
+                        table,
+                        sleepers: AtomicU64::new(0),
+                        room,
+                    };
+                    Ok((desk, pass))
+                }
                 Err(Refused { slots }) => Err(DeskRefused {
                     values: taken_from(slots, spare),
                 }),

@@ -22,7 +22,7 @@ invariant_of-pass g c =
     let p = c.args.pass.now in
     let clears = subst (λ z. Clears z c.clear-was.new.self c.args.cell c.clear-was.result) (c.value.ensures.value ∙ c.enter-turn.ensures.turn.1) c.clear-was.ensures in
     let after = tells_clear g.C.BoardItem.length_of 0 _ _ (desk_view p.pass) _ _ c.args.cell c.clear-was.result c.enter-turn.ensures.pass.1 c.requires.last clears c.exit.ensures.left in
-    let k = cleared_pass (desk_view p.pass) (desk_view c.exit.new.pass) p.session p.made c.args.cell after c.requires.last p.of_session p.counted p.few in
+    let k = cleared_pass (desk_view p.pass) (desk_view c.exit.new.pass) p.session p.made c.args.cell c.clear-was.result after c.requires.last p.of_session p.counted p.few in
     record { of_session = k.0; counted = k.1; few = k.2 }
 
 pub returns-clause-cleared : goal.returns-clause-cleared

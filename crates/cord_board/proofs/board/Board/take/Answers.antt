@@ -1,8 +1,9 @@
 -- What the proof of `Board::take` needs beyond the search.
 use Rattle.std.proofs.Common.{rules, arith, ◌≡◌, ℕ, ◌+◌, ◌<◌, length, Some, None, ap, ◌∙◌, sym, subst}
 use Rattle.turn_desk.specs.Passes.{desk_view}
-use Rattle.cord_board.specs.declared.entry.Act.TheVariants.{Take}
-use Rattle.cord_board.specs.Log.{deed, Acts}
+use Rattle.plain_cord.specs.declared.history.Act.TheVariants.{Take}
+use Rattle.plain_cord.specs.Deeds.{deed}
+use Rattle.cord_board.specs.Log.{Acts}
 use Rattle.cord_board.specs.Views.{Did}
 use Rattle.cord_board.proofs.Turns.{found_cells, found_room, owes, tells, acted_pass}
 use Rattle.cord_board.proofs.board.Board.take.Goals as goal
