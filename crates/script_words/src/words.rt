@@ -20,6 +20,18 @@ pub fn first_part(bytes: &[u8], separator: u8) -> (&[u8], Option<&[u8]>)
     }
 }
 
+/// What stands before the first space, and what behind it. Words are short, so it goes byte by byte: a search takes longer to begin.
+pub fn first_word(line: &[u8]) -> (&[u8], Option<&[u8]>)
+    ensures { (result.0.now, option_map (λ rest. rest.now) result.1) ≡ cut 32 line.now }
+{
+    for (i, b) in line.iter().enumerate() {
+        if *b == b' ' {
+            return (&line[..i], Some(&line[i + 1..]));
+        }
+    }
+    (line, None)
+}
+
 /// The next word of a line, and what stands behind its space.
 pub fn take_word(rest: Option<&[u8]>) -> Result<(&[u8], Option<&[u8]>), Refused>
     ensures { Gives (λ x. (x.0.now, option_map (λ rest. rest.now) x.1)) result (word_at (option_map (λ r. r.now) rest.entry)) }
@@ -27,7 +39,7 @@ pub fn take_word(rest: Option<&[u8]>) -> Result<(&[u8], Option<&[u8]>), Refused>
     let Some(bytes) = rest else {
         return Err(Refused::Fault(Cause::Words));
     };
-    let (word, behind) = first_part(bytes, b' ');
+    let (word, behind) = first_word(bytes);
     if word.is_empty() {
         return Err(Refused::Fault(Cause::Words));
     }
