@@ -1,10 +1,11 @@
-"""A straightforward interpreter of scripts without a fault: each cord is a byte string of Python's."""
+"""A straightforward interpreter of scripts without a fault: each cord is a byte string of Python's, and the board a dictionary."""
 
 import re
 
 ESCAPES = {b'"': b'"', b"\\": b"\\", b"n": b"\n"}
 ESCAPE = re.compile(rb"\\(x[0-9a-f]{2}|.)")
 WITH_TEXT = {b"let", b"append", b"prepend", b"find", b"starts", b"ends"}
+ON_CELLS = {b"put", b"take", b"peek", b"swap"}
 MOST_BYTES = 2147483647
 MOST_SHOWN = 4096
 
@@ -32,9 +33,14 @@ def quoted(text):
 
 
 class Session:
-    def __init__(self):
+    """One session: its names' cords and sums, the board's cells, which all sessions share, and how often it acted on one."""
+
+    def __init__(self, name, cells):
+        self.name = name
+        self.cells = cells
         self.cords = {}
         self.sums = {}
+        self.acted = 0
 
     def set(self, name, text, expected=None):
         self.cords[name] = text
@@ -49,6 +55,31 @@ class Session:
     def cut(self, name, asked, text):
         size = len(self.cords[name])
         return self.change(name, text) if asked <= size else f"! position {asked} {size}"
+
+    def does(self, word, rest):
+        """The reply to a command, and the history's line of it where it acts on a cell."""
+        return self.acts(word, rest) if word in ON_CELLS else (self.answer(word, rest), None)
+
+    def acts(self, word, rest):
+        name, cell = (rest[0], int(rest[1])) if word in (b"put", b"swap") else (rest[1], int(rest[0]))
+        own = (self.cords.get(name), self.sums.get(name))
+        if word in (b"put", b"swap") and own[0] is None:
+            return f"! unset {name.decode()}", None
+        self.acted += 1
+        entry = f"{self.name} {self.acted} {word.decode()} {cell}"
+        if word == b"put":
+            self.cells[cell] = own
+            return self.set(name, b""), f"{entry} ok {len(own[0])}"
+        found = self.cells.get(cell)
+        if found is None:
+            return f"! empty {cell}", f"{entry} empty"
+        came = ""
+        if word == b"take":
+            del self.cells[cell]
+        if word == b"swap":
+            self.cells[cell] = own
+            came = f" {len(own[0])}"
+        return self.set(name, *found), f"{entry} ok{came} {len(found[0])}"
 
     def answer(self, word, rest):
         if word == b"let":
@@ -101,17 +132,37 @@ class Session:
         raise ValueError(word)
 
 
-def run(script):
-    """The output of `cords run` on a script."""
-    lines, session = [], None
+def sessions_of(script):
+    """The sessions of a script, in order: the name and the commands of each, a command as its first word and the others."""
+    sessions = []
     for line in script.split(b"\n")[1:]:
         if not line or line.startswith(b"#"):
             continue
         word, _, rest = line.partition(b" ")
         if word == b"session":
-            session = Session()
-            lines.append(line.decode())
+            sessions.append((rest.decode(), []))
         elif word != b"end":
-            parts = rest.split(b" ", 1) if word in WITH_TEXT else rest.split(b" ")
-            lines.append(session.answer(word, parts))
+            sessions[-1][1].append((word, rest.split(b" ", 1) if word in WITH_TEXT else rest.split(b" ")))
+    return sessions
+
+
+def output(names, replies, history):
+    """The text of a run: each session's line and replies, the history, and the pool, which all numbers came back to."""
+    lines = []
+    for name, said in zip(names, replies):
+        lines += [f"session {name}", *said]
+    lines += [f"history {len(history)}", *history, "pool 0 of 65536"]
     return "".join(f"{line}\n" for line in lines)
+
+
+def run(script):
+    """The output of `cords run` on a script where its sessions are done one after another. With one session there is no other."""
+    sessions, cells, replies, history = sessions_of(script), {}, [], []
+    for name, commands in sessions:
+        session = Session(name, cells)
+        replies.append([])
+        for word, rest in commands:
+            reply, entry = session.does(word, rest)
+            replies[-1].append(reply)
+            history += [entry] if entry else []
+    return output([name for name, _ in sessions], replies, history)

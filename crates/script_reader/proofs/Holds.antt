@@ -1,9 +1,9 @@
 -- What is read is spelled: the items so far are those of the state so far.
-use Rattle.std.proofs.Common.{◌≡◌, ◌≢◌, ℕ, ◌+◌, ◌<◌, ◌≤◌, Bool, true, false, cond, ltb, eqb, List, [], ◌∷◌, ◌++◌, length, map, Option, Some, None, Result, Ok, Err, refl, sym, ap, ◌∙◌, subst, arith, inl, inr, append_assoc, length-append}
-use Rattle.std.specs.Prelude.{◌&&◌, ◌||◌, ◌⊎◌, IfOk, is_none, codes}
+use Rattle.std.proofs.Common.{◌≡◌, ◌≢◌, ℕ, ◌+◌, ◌<◌, ◌≤◌, Bool, true, false, cond, ltb, List, [], ◌∷◌, ◌++◌, length, map, Option, Some, None, Result, Ok, Err, refl, sym, ap, ◌∙◌, subst, arith, append_assoc, length-append}
+use Rattle.std.specs.Prelude.{◌&&◌, IfOk, is_none, codes}
 use Rattle.std.specs.List.{list_any, list_all, flat_map}
 use Rattle.std.specs.Str.{bytes_eq}
-use Rattle.std.proofs.lemmas.Bool.{ltb-true, eqb-true, or_parts, or_cases, and_from, and_parts, both_ways}
+use Rattle.std.proofs.lemmas.Bool.{ltb-true, eqb-true, or_parts, and_from, both_ways}
 use Rattle.std.proofs.lemmas.List.{append-nil, map-append}
 use Rattle.std.proofs.lemmas.List.Concat.{flat_map-cons}
 use Rattle.std.proofs.lemmas.List.Folds.{list_all-append}
@@ -23,8 +23,8 @@ use Rattle.script_reader.specs.declared.progress.Item.TheVariants as items
 use Rattle.script_reader.specs.declared.progress.Progress.{Progress}
 use Rattle.script_reader.specs.declared.fault.ReadRefused.{ReadRefused}
 use Rattle.script_reader.specs.ScriptReading.{Reads}
-use Rattle.script_reader.specs.Built.{is_ready, has_many_sessions, is_fresh, is_allowed}
-use Rattle.script_reader.specs.Scripts.{is_placed, is_called, chosen, with_command, with_end, entered, script_from, lines_of, lines_from, start, headed, read_of, is_header_line}
+use Rattle.script_reader.specs.Built.{is_ready}
+use Rattle.script_reader.specs.Scripts.{is_fresh, is_placed, is_called, chosen, with_command, with_end, entered, script_from, lines_of, lines_from, start, headed, read_of, is_header_line}
 use Rattle.script_reader.specs.Spelling.{setting_verb, verb_for}
 use Rattle.script_reader.specs.ScriptSpelling.{session_items, script_items, NoneIsCalled, NamesDiffer, commands_in, is_ready_item, Spells, IsWritten, SpellsLines}
 use Rattle.script_reader.specs.Faults.{accepted, run}
@@ -48,10 +48,6 @@ abbrev IsFresh : Option Session → List Session → Type 0
 IsFresh None done = Unit {0}
 IsFresh (Some s) done = list_any (is_called s.name) done ≡ false
 
--- as many sessions as are built
-abbrev IsAlone : ℕ → Type 0
-IsAlone n = (has_many_sessions ≡ true) ⊎ (n ≤ 1)
-
 record Holds (p : Progress) (said : List Item) : Type 0 where
   options : List Setting
   given : AreOnce options p.settings
@@ -62,22 +58,19 @@ record Holds (p : Progress) (said : List Item) : Type 0 where
   short : p.commands ≤ 16384
   fresh : IsFresh p.current p.done
   ready : list_all is_ready_item said ≡ true
-  alone : IsAlone (length p.done + one_open p.current)
 
 -- ---- what an accepted item tells
 
 record IsAccepted (p : Progress) (item : Item) (q : Progress) : Type 0 where
   ready : is_ready (verb_for item) ≡ true
-  allowed : is_allowed p (verb_for item) ≡ true
   placed : is_placed p (verb_for item) ≡ true
   entered_so : entered p item ≡ Ok q
 
 is_accepted : (p : Progress) (item : Item) (q : Progress) → accepted p item ≡ Ok q → IsAccepted p item q
 is_accepted p item q e =
-    let a = if_ok (is_ready (verb_for item) && is_allowed p (verb_for item)) causes.Unbuilt (cond (is_placed p (verb_for item)) (entered p item) (Err causes.Misplaced)) q e in
+    let a = if_ok (is_ready (verb_for item)) causes.Unbuilt (cond (is_placed p (verb_for item)) (entered p item) (Err causes.Misplaced)) q e in
     let b = if_ok (is_placed p (verb_for item)) causes.Misplaced (entered p item) q a.1 in
-    let r = and_parts (is_ready (verb_for item)) (is_allowed p (verb_for item)) a.0 in
-    record { ready = r.0; allowed = r.1; placed = b.0; entered_so = b.1 }
+    record { ready = a.0; placed = b.0; entered_so = b.1 }
 
 ready_push : (said : List Item) (item : Item) → list_all is_ready_item said ≡ true → is_ready (verb_for item) ≡ true → list_all is_ready_item (said ++ item ∷ []) ≡ true
 ready_push said item h k = list_all-append is_ready_item said (item ∷ []) ∙ and_from (list_all is_ready_item said) (is_ready_item item && true) h (and_from (is_ready_item item) true k refl)
@@ -106,22 +99,13 @@ keeps_setting s g [] None n q said h ready placed e =
       short = h.short;
       fresh = tt;
       ready = ready_push said (items.Set s) h.ready ready;
-      alone = h.alone;
     })
 
--- a session that may begin is alone, unless there may be many
-begins_alone : (done : List Session) → (has_many_sessions || eqb (length done) 0) ≡ true → IsAlone (length done + 1)
-begins_alone done e = either (or_cases has_many_sessions (eqb (length done) 0) e)
-  where
-    either : (has_many_sessions ≡ true) ⊎ (eqb (length done) 0 ≡ true) → IsAlone (length done + 1)
-    either (inl many) = inl many
-    either (inr none) = let z : length done ≡ 0 = eqb-true (length done) 0 none in inr (omega arith)
-
 keeps_begin : (name : List ℕ) (g : Settings) (done : List Session) (current : Option Session) (n : ℕ) (q : Progress) (said : List Item)
-    → (let p : Progress = record { settings = g; done = done; current = current; commands = n } in Holds p said → is_ready verbs.Session ≡ true → is_allowed p verbs.Session ≡ true → is_none current ≡ true
+    → (let p : Progress = record { settings = g; done = done; current = current; commands = n } in Holds p said → is_ready verbs.Session ≡ true → is_none current ≡ true
     → cond (list_any (is_called name) done) (Err causes.Duplicate) (cond (ltb (length done) 16) (Ok (inside g done name [] n)) (Err causes.Many)) ≡ Ok q → Holds q (said ++ items.Begin name ∷ []))
-keeps_begin name g done (Some s) n q said h ready allowed placed e = absurd cc
-keeps_begin name g done None n q said h ready allowed placed e =
+keeps_begin name g done (Some s) n q said h ready placed e = absurd cc
+keeps_begin name g done None n q said h ready placed e =
     let a = unless_ok (list_any (is_called name) done) causes.Duplicate (cond (ltb (length done) 16) (Ok (inside g done name [] n)) (Err causes.Many)) q e in
     let b = if_ok (ltb (length done) 16) causes.Many (Ok (inside g done name [] n)) q a.1 in
     let room : length done < 16 = ltb-true (length done) 16 b.0 in
@@ -136,7 +120,6 @@ keeps_begin name g done None n q said h ready allowed placed e =
       short = h.short;
       fresh = a.0;
       ready = ready_push said (items.Begin name) h.ready ready;
-      alone = begins_alone done allowed;
     })
 
 keeps_command : (c : Command) (g : Settings) (done : List Session) (current : Option Session) (n : ℕ) (q : Progress) (said : List Item)
@@ -158,7 +141,6 @@ keeps_command c g done (Some s) n q said h ready e =
       short = omega arith;
       fresh = h.fresh;
       ready = ready_push said (items.Do c) h.ready ready;
-      alone = h.alone;
     })
 
 called_none : (name : List ℕ) (s : Session) → is_called name s ≡ false → s.name ≢ name
@@ -177,10 +159,6 @@ differ_push (d ∷ ds) s h fresh =
 commands_push : (ds : List Session) (s : Session) → commands_in (ds ++ s ∷ []) ≡ commands_in ds + length s.commands
 commands_push [] s = omega arith
 commands_push (d ∷ ds) s = omega (arith, commands_push ds s)
-
-ends_alone : (done : List Session) (s : Session) → IsAlone (length done + 1) → IsAlone (length (done ++ s ∷ []) + 0)
-ends_alone done s (inl many) = inl many
-ends_alone done s (inr one) = inr (omega (arith, length-append done (s ∷ [])))
 
 keeps_end : (g : Settings) (done : List Session) (current : Option Session) (n : ℕ) (q : Progress) (said : List Item)
     → (let p : Progress = record { settings = g; done = done; current = current; commands = n } in Holds p said → is_ready verbs.End ≡ true → with_end p current ≡ Ok q → Holds q (said ++ items.End ∷ []))
@@ -204,13 +182,12 @@ keeps_end g done (Some s) n q said h ready e =
       short = h.short;
       fresh = tt;
       ready = ready_push said items.End h.ready ready;
-      alone = ends_alone done s h.alone;
     })
 
 keeps : (p : Progress) (item : Item) (q : Progress) (said : List Item) → Holds p said → accepted p item ≡ Ok q → Holds q (said ++ item ∷ [])
 unfolding entered
 keeps p (items.Set s) q said h e = let a = is_accepted p (items.Set s) q e in keeps_setting s p.settings p.done p.current p.commands q said h a.ready (sym (setting_placed p s) ∙ a.placed) a.entered_so
-keeps p (items.Begin name) q said h e = let a = is_accepted p (items.Begin name) q e in keeps_begin name p.settings p.done p.current p.commands q said h a.ready a.allowed a.placed a.entered_so
+keeps p (items.Begin name) q said h e = let a = is_accepted p (items.Begin name) q e in keeps_begin name p.settings p.done p.current p.commands q said h a.ready a.placed a.entered_so
 keeps p (items.Do c) q said h e = let a = is_accepted p (items.Do c) q e in keeps_command c p.settings p.done p.current p.commands q said h a.ready a.entered_so
 keeps p items.End q said h e = let a = is_accepted p items.End q e in keeps_end p.settings p.done p.current p.commands q said h a.ready a.entered_so
 
@@ -221,7 +198,7 @@ runs_hold (item ∷ more) p q said h e =
     subst (λ (l : List Item). Holds q l) (append_assoc said (item ∷ []) more) (runs_hold more a.0 q (said ++ item ∷ []) (keeps p item a.0 said h a.1) a.2)
 
 starts : Holds start []
-starts = record { options = []; given = record { pool = refl; passes = refl; stride = refl }; spelled = refl; differ = tt; few = omega arith; count = refl; short = omega arith; fresh = tt; ready = refl; alone = inr (omega arith) }
+starts = record { options = []; given = record { pool = refl; passes = refl; stride = refl }; spelled = refl; differ = tt; few = omega arith; count = refl; short = omega arith; fresh = tt; ready = refl }
 
 -- ---- the whole
 
@@ -236,10 +213,6 @@ headed_found (line ∷ more) s e = by_test (is_header_line line) refl e
     by_test : (t : Bool) → is_header_line line ≡ t → cond t (lines_from 2 start more) (Err (record { line = 1; cause = causes.Header })) ≡ Ok s → (rest : List (List ℕ)) × (line ∷ more ≡ codes "cords 1" ∷ rest) × (lines_from 2 start rest ≡ Ok s)
     by_test true is f = (more, ap (λ (l : List ℕ). l ∷ more) ((bytes_eq-Decides line (codes "cords 1")).0 is), f)
     by_test false is f = absurd cc
-
-alone_done : (done : List Session) (current : Option Session) → current ≡ None → IsAlone (length done + one_open current) → IsAlone (length done)
-alone_done done current none (inl many) = inl many
-alone_done done current none (inr one) = inr (omega arith)
 
 pub read_is_spelled : (bytes : List ℕ) (s : Script) → read_of bytes ≡ Ok s → Spells bytes s
 read_is_spelled bytes s e =
@@ -258,7 +231,7 @@ read_is_spelled bytes s e =
       differ = h.differ;
       few = omega (arith, h.few);
       short = omega (arith, h.count, h.short, none);
-      built = record { words = ap (list_all is_ready_item) (sym said) ∙ h.ready; number = alone_done r.last.done r.last.current r.closed h.alone };
+      built = ap (list_all is_ready_item) (sym said) ∙ h.ready;
     })
 
 pub is_found : (bytes : List ℕ) (r : Result Script ReadRefused) → Reads (λ s. s) r (read_of bytes) → IfOk r (λ s. Spells bytes s)

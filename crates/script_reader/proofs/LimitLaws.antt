@@ -148,7 +148,7 @@ sessions_sound (s ∷ ss) h ready =
 pub spelled_within : (bytes : List ℕ) (s : Script) → Spells bytes s → IsWithinLimits s
 spelled_within bytes s h =
     let a = sound_parts (map items.Set h.options) (flat_map session_items s.sessions) (lines_sound h.lines (script_items h.options s.sessions) h.spelled) in
-    let b = ready_parts (map items.Set h.options) (flat_map session_items s.sessions) h.built.words in
+    let b = ready_parts (map items.Set h.options) (flat_map session_items s.sessions) h.built in
     let pool = given_pool h.options s.pool a.0 h.given.pool in
     let passes = given_passes h.options s.passes a.0 h.given.passes in
     record {

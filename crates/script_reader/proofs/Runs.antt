@@ -1,9 +1,9 @@
 -- The items of a script are run: what is spelled is read.
-use Rattle.std.proofs.Common.{◌≡◌, ◌≢◌, ℕ, suc, ◌+◌, ◌<◌, ◌≤◌, Bool, true, false, cond, eqb, List, [], ◌∷◌, ◌++◌, length, map, Some, None, Result, Ok, Err, refl, sym, ap, ◌∙◌, subst, arith, inl, inr, append_assoc, length-append}
-use Rattle.std.specs.Prelude.{◌&&◌, ◌||◌, ◌⊎◌, is_some, codes}
+use Rattle.std.proofs.Common.{◌≡◌, ◌≢◌, ℕ, suc, ◌+◌, ◌<◌, ◌≤◌, Bool, true, false, cond, List, [], ◌∷◌, ◌++◌, length, map, Some, None, Result, Ok, Err, refl, sym, ap, ◌∙◌, subst, arith, append_assoc, length-append}
+use Rattle.std.specs.Prelude.{◌&&◌, is_some, codes}
 use Rattle.std.specs.List.{list_any, list_all, flat_map}
 use Rattle.std.specs.Str.{bytes_eq}
-use Rattle.std.proofs.lemmas.Bool.{lt-ltb, eq-eqb, or_from, and_from, and_parts, false_from_ne_true}
+use Rattle.std.proofs.lemmas.Bool.{lt-ltb, or_from, and_parts, false_from_ne_true}
 use Rattle.std.proofs.lemmas.List.{append-nil}
 use Rattle.std.proofs.lemmas.List.Concat.{flat_map-cons}
 use Rattle.std.proofs.lemmas.List.Folds.{list_all-append}
@@ -22,8 +22,8 @@ use Rattle.script_reader.specs.declared.progress.Settings.{Settings}
 use Rattle.script_reader.specs.declared.progress.Item.{Item}
 use Rattle.script_reader.specs.declared.progress.Item.TheVariants as items
 use Rattle.script_reader.specs.declared.progress.Progress.{Progress}
-use Rattle.script_reader.specs.Built.{is_ready, has_many_sessions, is_fresh, is_allowed}
-use Rattle.script_reader.specs.Scripts.{is_placed, is_called, chosen, entered, script_from, lines_from, start, headed, read_of}
+use Rattle.script_reader.specs.Built.{is_ready}
+use Rattle.script_reader.specs.Scripts.{is_fresh, is_placed, is_called, chosen, entered, script_from, lines_from, start, headed, read_of}
 use Rattle.script_reader.specs.Spelling.{setting_verb, command_verb, verb_for}
 use Rattle.script_reader.specs.ScriptSpelling.{session_items, script_items, NoneIsCalled, NamesDiffer, commands_in, is_ready_item, Spells}
 use Rattle.script_reader.specs.Faults.{accepted, run}
@@ -51,11 +51,6 @@ pub setting_placed : (p : Progress) (s : Setting) → is_placed p (setting_verb 
 setting_placed p (settings.Pool n) = refl
 setting_placed p (settings.Passes n) = refl
 setting_placed p (settings.Stride n) = refl
-
-setting_allowed : (p : Progress) (s : Setting) → is_allowed p (setting_verb s) ≡ true
-setting_allowed p (settings.Pool n) = refl
-setting_allowed p (settings.Passes n) = refl
-setting_allowed p (settings.Stride n) = refl
 
 command_placed : (p : Progress) (c : Command) → is_placed p (command_verb c) ≡ is_some p.current
 command_placed p (commands.Let a text) = refl
@@ -86,38 +81,9 @@ command_placed p commands.Snap = refl
 command_placed p commands.Walk = refl
 command_placed p commands.Unsnap = refl
 
-command_allowed : (p : Progress) (c : Command) → is_allowed p (command_verb c) ≡ true
-command_allowed p (commands.Let a text) = refl
-command_allowed p (commands.Ext a text) = refl
-command_allowed p (commands.Append a text) = refl
-command_allowed p (commands.Prepend a text) = refl
-command_allowed p (commands.Find a text) = refl
-command_allowed p (commands.Starts a text) = refl
-command_allowed p (commands.Ends a text) = refl
-command_allowed p (commands.Copy a b) = refl
-command_allowed p (commands.Join a b) = refl
-command_allowed p (commands.JoinFront a b) = refl
-command_allowed p (commands.Compare a b) = refl
-command_allowed p (commands.Clear a) = refl
-command_allowed p (commands.Sum a) = refl
-command_allowed p (commands.Size a) = refl
-command_allowed p (commands.Print a) = refl
-command_allowed p (commands.CutFront a n) = refl
-command_allowed p (commands.CutBack a n) = refl
-command_allowed p (commands.At a n) = refl
-command_allowed p (commands.SetSum a n) = refl
-command_allowed p (commands.Put a n) = refl
-command_allowed p (commands.Swap a n) = refl
-command_allowed p (commands.Take n a) = refl
-command_allowed p (commands.Peek n a) = refl
-command_allowed p (commands.Sub a pos n b) = refl
-command_allowed p commands.Snap = refl
-command_allowed p commands.Walk = refl
-command_allowed p commands.Unsnap = refl
-
-accepts : (p : Progress) (item : Item) (r : Result Progress Cause) → is_ready (verb_for item) ≡ true → is_allowed p (verb_for item) ≡ true → is_placed p (verb_for item) ≡ true → entered p item ≡ r → accepted p item ≡ r
-accepts p item r ready allowed placed e =
-    ap (λ (t : Bool). cond t (cond (is_placed p (verb_for item)) (entered p item) (Err causes.Misplaced)) (Err causes.Unbuilt)) (and_from (is_ready (verb_for item)) (is_allowed p (verb_for item)) ready allowed)
+accepts : (p : Progress) (item : Item) (r : Result Progress Cause) → is_ready (verb_for item) ≡ true → is_placed p (verb_for item) ≡ true → entered p item ≡ r → accepted p item ≡ r
+accepts p item r ready placed e =
+    ap (λ (t : Bool). cond t (cond (is_placed p (verb_for item)) (entered p item) (Err causes.Misplaced)) (Err causes.Unbuilt)) ready
     ∙ ap (λ (t : Bool). cond t (entered p item) (Err causes.Misplaced)) placed ∙ e
 
 -- ---- options
@@ -125,7 +91,7 @@ accepts p item r ready allowed placed e =
 one_setting : (g next : Settings) (s : Setting) → is_ready (setting_verb s) ≡ true → chosen g s ≡ Ok next → accepted (between g [] 0) (items.Set s) ≡ Ok (between next [] 0)
 unfolding entered
 one_setting g next s ready e =
-    accepts (between g [] 0) (items.Set s) (Ok (between next [] 0)) ready (setting_allowed (between g [] 0) s) (setting_placed (between g [] 0) s)
+    accepts (between g [] 0) (items.Set s) (Ok (between next [] 0)) ready (setting_placed (between g [] 0) s)
     (ap (λ (r : Result Settings Cause). let x : Result Progress Cause = r >>= λ h. Ok (between h [] 0) in x) e)
 
 settings_run : (ss : List Setting) (g end : Settings) → Goes g ss end → list_all is_ready_item (map items.Set ss) ≡ true → run (between g [] 0) (map items.Set ss) ≡ Ok (between end [] 0)
@@ -141,7 +107,7 @@ one_command : (g : Settings) (done : List Session) (name : List ℕ) (said : Lis
     → accepted (inside g done name said n) (items.Do c) ≡ Ok (inside g done name (said ++ c ∷ []) (n + 1))
 unfolding entered
 one_command g done name said n c ready lt =
-    accepts (inside g done name said n) (items.Do c) (Ok (inside g done name (said ++ c ∷ []) (n + 1))) ready (command_allowed (inside g done name said n) c) (command_placed (inside g done name said n) c)
+    accepts (inside g done name said n) (items.Do c) (Ok (inside g done name (said ++ c ∷ []) (n + 1))) ready (command_placed (inside g done name said n) c)
     (ap (λ (t : Bool). let x : Result Progress Cause = cond t (Ok (inside g done name (said ++ c ∷ []) (n + 1))) (Err causes.Many) in x) (lt-ltb n 16384 lt))
 
 commands_run : (cs : List Command) (g : Settings) (done : List Session) (name : List ℕ) (said : List Command) (n : ℕ) → list_all is_ready_item (map items.Do cs) ≡ true → n + length cs ≤ 16384
@@ -154,24 +120,24 @@ commands_run (c ∷ cs) g done name said n ready le =
     ∙ ap (λ (l : List Command). Ok (inside g done name l (n + 1 + length cs))) (append_assoc said (c ∷ []) cs)
     ∙ ap (λ (k : ℕ). Ok (inside g done name (said ++ c ∷ cs) k)) (let e : n + 1 + length cs ≡ n + suc (length cs) = omega arith in e)
 
-begins : (g : Settings) (done : List Session) (n : ℕ) (name : List ℕ) → is_ready verbs.Session ≡ true → (has_many_sessions || eqb (length done) 0) ≡ true → list_any (is_called name) done ≡ false → length done < 16
+begins : (g : Settings) (done : List Session) (n : ℕ) (name : List ℕ) → is_ready verbs.Session ≡ true → list_any (is_called name) done ≡ false → length done < 16
     → accepted (between g done n) (items.Begin name) ≡ Ok (inside g done name [] n)
 unfolding entered
-begins g done n name ready alone fresh lt = accepts (between g done n) (items.Begin name) (Ok (inside g done name [] n)) ready alone refl (rw (fresh, lt-ltb (length done) 16 lt) refl)
+begins g done n name ready fresh lt = accepts (between g done n) (items.Begin name) (Ok (inside g done name [] n)) ready refl (rw (fresh, lt-ltb (length done) 16 lt) refl)
 
 closes : (g : Settings) (done : List Session) (name : List ℕ) (said : List Command) (n : ℕ) → is_ready verbs.End ≡ true
     → run (inside g done name said n) (items.End ∷ []) ≡ Ok (between g (done ++ record { name = name; commands = said } ∷ []) n)
 unfolding entered
 closes g done name said n ready =
-    ap (λ (x : Result Progress Cause). x >>= λ q. run q []) (accepts (inside g done name said n) items.End (Ok (between g (done ++ record { name = name; commands = said } ∷ []) n)) ready refl refl refl)
+    ap (λ (x : Result Progress Cause). x >>= λ q. run q []) (accepts (inside g done name said n) items.End (Ok (between g (done ++ record { name = name; commands = said } ∷ []) n)) ready refl refl)
 
-session_run : (s : Session) (g : Settings) (done : List Session) (n : ℕ) → list_all is_ready_item (session_items s) ≡ true → (has_many_sessions || eqb (length done) 0) ≡ true → list_any (is_called s.name) done ≡ false → length done < 16
+session_run : (s : Session) (g : Settings) (done : List Session) (n : ℕ) → list_all is_ready_item (session_items s) ≡ true → list_any (is_called s.name) done ≡ false → length done < 16
     → n + length s.commands ≤ 16384 → run (between g done n) (session_items s) ≡ Ok (between g (done ++ s ∷ []) (n + length s.commands))
-session_run s g done n ready alone fresh few short =
+session_run s g done n ready fresh few short =
     let a = and_parts (is_ready verbs.Session) (list_all is_ready_item (map items.Do s.commands ++ items.End ∷ [])) ready in
     let b = and_parts (list_all is_ready_item (map items.Do s.commands)) (is_ready verbs.End && true) (sym (list_all-append is_ready_item (map items.Do s.commands) (items.End ∷ [])) ∙ a.1) in
     let last = and_parts (is_ready verbs.End) true b.1 in
-    ap (λ (x : Result Progress Cause). x >>= λ q. run q (map items.Do s.commands ++ items.End ∷ [])) (begins g done n s.name a.0 alone fresh few)
+    ap (λ (x : Result Progress Cause). x >>= λ q. run q (map items.Do s.commands ++ items.End ∷ [])) (begins g done n s.name a.0 fresh few)
     ∙ run_append (inside g done s.name [] n) (map items.Do s.commands) (items.End ∷ [])
     ∙ ap (λ (x : Result Progress Cause). x >>= λ q. run q (items.End ∷ [])) (commands_run s.commands g done s.name [] n b.0 short)
     ∙ closes g done s.name s.commands (n + length s.commands) last.0
@@ -187,30 +153,17 @@ fresh_from : (done : List Session) (s : Session) (ss : List Session) → NamesDi
 fresh_from [] s ss h = refl
 fresh_from (d ∷ ds) s ss h = or_from (is_called s.name d) (list_any (is_called s.name) ds) (differ_same d.name s.name (λ e. none_called d.name ds s ss h.0 (sym e))) (fresh_from ds s ss h.1)
 
-or_true : (b : Bool) → (b || true) ≡ true
-or_true true = refl
-or_true false = refl
-
--- one session more may begin
-may_begin : (done ss : List Session) (s : Session) → (has_many_sessions ≡ true) ⊎ (length done + length (s ∷ ss) ≤ 1) → (has_many_sessions || eqb (length done) 0) ≡ true
-may_begin done ss s (inl many) = ap (λ (b : Bool). b || eqb (length done) 0) many
-may_begin done ss s (inr one) = ap (λ (b : Bool). has_many_sessions || b) (eq-eqb (length done) 0 (omega arith)) ∙ or_true has_many_sessions
-
-may_follow : (done ss : List Session) (s : Session) → (has_many_sessions ≡ true) ⊎ (length done + length (s ∷ ss) ≤ 1) → (has_many_sessions ≡ true) ⊎ (length (done ++ s ∷ []) + length ss ≤ 1)
-may_follow done ss s (inl many) = inl many
-may_follow done ss s (inr one) = inr (omega (arith, length-append done (s ∷ [])))
-
-sessions_run : (ss : List Session) (g : Settings) (done : List Session) (n : ℕ) → list_all is_ready_item (flat_map session_items ss) ≡ true → (has_many_sessions ≡ true) ⊎ (length done + length ss ≤ 1)
+sessions_run : (ss : List Session) (g : Settings) (done : List Session) (n : ℕ) → list_all is_ready_item (flat_map session_items ss) ≡ true
     → NamesDiffer (done ++ ss) → length done + length ss ≤ 16 → n + commands_in ss ≤ 16384
     → run (between g done n) (flat_map session_items ss) ≡ Ok (between g (done ++ ss) (n + commands_in ss))
-sessions_run [] g done n ready alone differ few short = ap (λ (l : List Session). Ok (between g l n)) (sym (append-nil done)) ∙ ap (λ (k : ℕ). Ok (between g (done ++ []) k)) (let e : n ≡ n + 0 = omega arith in e)
-sessions_run (s ∷ ss) g done n ready alone differ few short =
+sessions_run [] g done n ready differ few short = ap (λ (l : List Session). Ok (between g l n)) (sym (append-nil done)) ∙ ap (λ (k : ℕ). Ok (between g (done ++ []) k)) (let e : n ≡ n + 0 = omega arith in e)
+sessions_run (s ∷ ss) g done n ready differ few short =
     let both : list_all is_ready_item (session_items s ++ flat_map session_items ss) ≡ true = ap (list_all is_ready_item) (sym (flat_map-cons session_items s ss)) ∙ ready in
     let a = and_parts (list_all is_ready_item (session_items s)) (list_all is_ready_item (flat_map session_items ss)) (sym (list_all-append is_ready_item (session_items s) (flat_map session_items ss)) ∙ both) in
     ap (run (between g done n)) (flat_map-cons session_items s ss)
     ∙ run_append (between g done n) (session_items s) (flat_map session_items ss)
-    ∙ ap (λ (x : Result Progress Cause). x >>= λ q. run q (flat_map session_items ss)) (session_run s g done n a.0 (may_begin done ss s alone) (fresh_from done s ss differ) (omega arith) (omega arith))
-    ∙ sessions_run ss g (done ++ s ∷ []) (n + length s.commands) a.1 (may_follow done ss s alone) (subst NamesDiffer (sym (append_assoc done (s ∷ []) ss)) differ) (omega (arith, length-append done (s ∷ []))) (omega arith)
+    ∙ ap (λ (x : Result Progress Cause). x >>= λ q. run q (flat_map session_items ss)) (session_run s g done n a.0 (fresh_from done s ss differ) (omega arith) (omega arith))
+    ∙ sessions_run ss g (done ++ s ∷ []) (n + length s.commands) a.1 (subst NamesDiffer (sym (append_assoc done (s ∷ []) ss)) differ) (omega (arith, length-append done (s ∷ []))) (omega arith)
     ∙ ap (λ (l : List Session). Ok (between g l (n + length s.commands + commands_in ss))) (append_assoc done (s ∷ []) ss)
     ∙ ap (λ (k : ℕ). Ok (between g (done ++ s ∷ ss) k)) (let e : n + length s.commands + commands_in ss ≡ n + (length s.commands + commands_in ss) = omega arith in e)
 
@@ -229,15 +182,11 @@ same_script g n s h =
 pub spelled_is_read : (bytes : List ℕ) (s : Script) → Spells bytes s → read_of bytes ≡ Ok s
 spelled_is_read bytes s h =
     let e = numbers_end h.options s h.given in
-    let w = and_parts (list_all is_ready_item (map items.Set h.options)) (list_all is_ready_item (flat_map session_items s.sessions)) (sym (list_all-append is_ready_item (map items.Set h.options) (flat_map session_items s.sessions)) ∙ h.built.words) in
+    let w = and_parts (list_all is_ready_item (map items.Set h.options)) (list_all is_ready_item (flat_map session_items s.sessions)) (sym (list_all-append is_ready_item (map items.Set h.options) (flat_map session_items s.sessions)) ∙ h.built) in
     let ran : run start (script_items h.options s.sessions) ≡ Ok (between e.0 s.sessions (0 + commands_in s.sessions)) =
     run_append start (map items.Set h.options) (flat_map session_items s.sessions)
     ∙ ap (λ (x : Result Progress Cause). x >>= λ q. run q (flat_map session_items s.sessions)) (settings_run h.options (start.settings) e.0 e.1 w.0)
-    ∙ sessions_run s.sessions e.0 [] 0 w.1 (alone h.built.number) h.differ (omega (arith, h.few)) (omega (arith, h.short)) in
+    ∙ sessions_run s.sessions e.0 [] 0 w.1 h.differ (omega (arith, h.few)) (omega (arith, h.short)) in
     ap headed (lines_again bytes (codes "cords 1" ∷ h.lines) h.written) ∙ headed_again h.lines
     ∙ script_lines_again 2 start h.lines (script_items h.options s.sessions) (between e.0 s.sessions (0 + commands_in s.sessions)) h.spelled ran refl
     ∙ ap (λ (t : Script). Ok t) (same_script e.0 (0 + commands_in s.sessions) s e.2)
-  where
-    alone : (has_many_sessions ≡ true) ⊎ (length s.sessions ≤ 1) → (has_many_sessions ≡ true) ⊎ (0 + length s.sessions ≤ 1)
-    alone (inl many) = inl many
-    alone (inr one) = inr (omega arith)

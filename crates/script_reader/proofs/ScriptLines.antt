@@ -14,7 +14,7 @@ use Rattle.script_reader.specs.declared.progress.Progress.{Progress}
 use Rattle.script_words.specs.Reading.{◌>>=◌}
 use Rattle.script_reader.specs.Lines.{word_of, verb_at, item_at}
 use Rattle.script_reader.specs.Scripts.{onto, lines_of, is_ignored, is_placed, entered, said, step, located, script_from, script_of, lines_from}
-use Rattle.script_reader.specs.Built.{is_built}
+use Rattle.script_reader.specs.Built.{is_ready}
 use Rattle.script_words.specs.Spelling.{joined}
 use Rattle.script_reader.specs.Spelling.{verb_for, SpellsItem}
 use Rattle.script_reader.specs.ScriptSpelling.{HasNoNewline, IsWritten, SpellsLines}
@@ -73,12 +73,12 @@ lines_again bytes (l ∷ ls) h = either l h.0 (λ after k. lines_again after ls 
 said_found : (p : Progress) (line : List ℕ) (q : Progress) → said p line ≡ Ok q → (item : Item) × SpellsItem line item × (accepted p item ≡ Ok q)
 unfolding said
 said_found p line q e =
-    let a = bind_ok (verb_at line) (λ verb. cond (is_built p verb.0) (cond (is_placed p verb.0) (item_at verb.0 verb.1 >>= λ item. entered p item) (Err causes.Misplaced)) (Err causes.Unbuilt)) q e in
-    let d = if_ok (is_built p a.0.0) causes.Unbuilt (cond (is_placed p a.0.0) (item_at a.0.0 a.0.1 >>= λ item. entered p item) (Err causes.Misplaced)) q a.2 in
+    let a = bind_ok (verb_at line) (λ verb. cond (is_ready verb.0) (cond (is_placed p verb.0) (item_at verb.0 verb.1 >>= λ item. entered p item) (Err causes.Misplaced)) (Err causes.Unbuilt)) q e in
+    let d = if_ok (is_ready a.0.0) causes.Unbuilt (cond (is_placed p a.0.0) (item_at a.0.0 a.0.1 >>= λ item. entered p item) (Err causes.Misplaced)) q a.2 in
     let b = if_ok (is_placed p a.0.0) causes.Misplaced (item_at a.0.0 a.0.1 >>= λ item. entered p item) q d.1 in
     let c = bind_ok (item_at a.0.0 a.0.1) (λ item. entered p item) q b.1 in
     let f = item_found a.0.0 a.0.1 c.0 c.1 in
-    let may : Verb → Result Progress Cause = λ v. cond (is_built p v) (cond (is_placed p v) (entered p c.0) (Err causes.Misplaced)) (Err causes.Unbuilt) in (
+    let may : Verb → Result Progress Cause = λ v. cond (is_ready v) (cond (is_placed p v) (entered p c.0) (Err causes.Misplaced)) (Err causes.Unbuilt) in (
       c.0,
       record { rest = a.0.1; words = verb_found line a.0 a.1 ∙ ap (λ (v : Verb). joined (word_of v) a.0.1) (sym f.0); says = f.1 },
       ap may f.0 ∙ ap (λ (t : Bool). cond t (cond (is_placed p a.0.0) (entered p c.0) (Err causes.Misplaced)) (Err causes.Unbuilt)) d.0 ∙ ap (λ (t : Bool). cond t (entered p c.0) (Err causes.Misplaced)) b.0 ∙ c.2,

@@ -9,7 +9,7 @@ use Rattle.script_reader.specs.declared.progress.Setting.TheVariants as settings
 use Rattle.script_reader.specs.declared.progress.Item.{Item}
 use Rattle.script_reader.specs.declared.progress.Item.TheVariants as items
 use Rattle.script_reader.specs.Scripts.{is_ignored}
-use Rattle.script_reader.specs.Built.{is_ready, has_many_sessions}
+use Rattle.script_reader.specs.Built.{is_ready}
 use Rattle.script_reader.specs.Spelling.{verb_for, SpellsItem}
 
 -- ---- lines
@@ -89,13 +89,9 @@ commands_in (s ∷ ss) = length s.commands + commands_in ss
 
 -- ---- the whole
 
+-- a word that is built
 abbrev pub is_ready_item : Item → Bool
 is_ready_item item = is_ready (verb_for item)
-
--- nothing that isn't built yet
-pub record AreBuilt (said : List Item) (sessions : List Session) : Type 0 where
-  pub words : list_all is_ready_item said ≡ true
-  pub number : (has_many_sessions ≡ true) ⊎ (length sessions ≤ 1)
 
 pub record Spells (bytes : List ℕ) (script : Script) : Type 0 where
   pub lines : List (List ℕ)
@@ -106,4 +102,4 @@ pub record Spells (bytes : List ℕ) (script : Script) : Type 0 where
   pub differ : NamesDiffer script.sessions
   pub few : length script.sessions ≤ 16
   pub short : commands_in script.sessions ≤ 16384
-  pub built : AreBuilt (script_items options script.sessions) script.sessions
+  pub built : list_all is_ready_item (script_items options script.sessions) ≡ true

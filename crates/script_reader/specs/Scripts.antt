@@ -1,5 +1,5 @@
 -- A script, line by line, and its first fault.
-use Rattle.std.specs.Prelude.{ℕ, ◌+◌, Bool, true, List, [], ◌∷◌, ◌++◌, length, Option, Some, None, Result, Ok, Err, ◌==◌, nat_lt, if◌then◌else◌, is_none, is_some, codes, unwrap_or}
+use Rattle.std.specs.Prelude.{ℕ, ◌+◌, ◌&&◌, Bool, true, List, [], ◌∷◌, ◌++◌, length, Option, Some, None, Result, Ok, Err, ◌==◌, nat_lt, if◌then◌else◌, is_none, is_some, codes, unwrap_or}
 use Rattle.std.specs.List.{list_any}
 use Rattle.std.specs.Str.{bytes_eq}
 use Rattle.script_words.specs.declared.fault.Cause.{Cause}
@@ -18,7 +18,7 @@ use Rattle.script_reader.specs.declared.progress.Item.{Item}
 use Rattle.script_reader.specs.declared.progress.Item.TheVariants as items
 use Rattle.script_reader.specs.declared.progress.Progress.{Progress}
 use Rattle.script_reader.specs.Lines.{verb_at, item_at}
-use Rattle.script_reader.specs.Built.{is_fresh, is_built}
+use Rattle.script_reader.specs.Built.{is_ready}
 
 -- The pieces between newlines. If the last is empty it is no line.
 abbrev pub onto : ℕ → List (List ℕ) → List (List ℕ)
@@ -33,6 +33,10 @@ lines_of (b ∷ bs) = if b == 10 then [] ∷ lines_of bs else onto b (lines_of b
 abbrev pub is_ignored : List ℕ → Bool
 is_ignored [] = true
 is_ignored (c ∷ cs) = c == 35
+
+-- no session has begun
+abbrev pub is_fresh : Progress → Bool
+is_fresh p = is_none p.current && length p.done == 0
 
 -- options stand before the first session, commands in one
 abbrev pub is_placed : Progress → Verb → Bool
@@ -80,7 +84,7 @@ entered p items.End = with_end p p.current
 unfoldable pub said : Progress → List ℕ → Result Progress Cause
 said p line = do
   verb ← verb_at line
-  if is_built p verb.0 then (if is_placed p verb.0 then (do
+  if is_ready verb.0 then (if is_placed p verb.0 then (do
     item ← item_at verb.0 verb.1
     entered p item) else Err causes.Misplaced) else Err causes.Unbuilt
 

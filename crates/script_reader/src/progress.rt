@@ -3,8 +3,7 @@ ghost use Rattle.std.specs.Prelude.{◌≡◌, ◌∷◌, Ok};
 ghost use Rattle.std.specs.List.{list_any};
 ghost use Rattle.script_words.specs.Reading.{Gives};
 ghost use Rattle.script_reader.specs.declared.progress.Item.TheVariants as items;
-ghost use Rattle.script_reader.specs.Built.{is_fresh};
-ghost use Rattle.script_reader.specs.Scripts.{is_placed, is_called, chosen, entered};
+ghost use Rattle.script_reader.specs.Scripts.{is_fresh, is_placed, is_called, chosen, entered};
 
 use crate::verbs::Verb;
 use plain_cord::{Command, Items, Session};
@@ -46,7 +45,7 @@ pub struct Progress {
 }
 
 /// Whether no session has begun.
-pub fn is_before_sessions(progress: &Progress) -> bool
+fn is_before_sessions(progress: &Progress) -> bool
     ensures { result ≡ is_fresh progress.now }
 {
     progress.current.is_none() && progress.done.len() == 0

@@ -4,7 +4,7 @@ ghost use Rattle.std.specs.Option.{option_map};
 ghost use Rattle.script_words.specs.Reading.{Gives};
 ghost use Rattle.script_reader.specs.Lines.{verb_of, verb_at};
 
-use script_words::{Cause, Refused, all_shown, first_part};
+use script_words::{Cause, Refused, all_shown, first_word};
 
 /// The first word of a line.
 #[derive(Clone, Copy, Debug, PartialEq, Eq)]
@@ -124,7 +124,7 @@ pub fn read_verb(line: &[u8]) -> Result<(Verb, Option<&[u8]>), Refused>
     if !all_shown(line) {
         return Err(Refused::Fault(Cause::Byte));
     }
-    let (word, rest) = first_part(line, b' ');
+    let (word, rest) = first_word(line);
     match find_verb(word) {
         None => Err(Refused::Fault(Cause::Command)),
         Some(verb) => Ok((verb, rest)),

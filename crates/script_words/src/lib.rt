@@ -10,7 +10,9 @@ mod words;
 pub use fault::{Cause, Refused};
 pub use numbers::read_number;
 pub use texts::read_text;
-pub use words::{all_shown, first_part, is_name, read_name, take_last_word, take_part, take_word};
+pub use words::{
+    all_shown, first_part, first_word, is_name, read_name, take_last_word, take_part, take_word,
+};
 
 #[cfg(test)]
 mod tests;

@@ -121,6 +121,8 @@ fn words_stand_between_single_spaces(rt: HostRuntime) {
     }
     let (first, behind) = first_part(b"ab;c", b';');
     assert!(rt; first.len() == 2 && behind.is_some());
+    let (word, others) = first_word(b"ab c d");
+    assert!(rt; word.len() == 2 && others == Some(b"c d".as_slice()));
     assert!(rt; take_last_word(Some(b"ab")).is_ok());
     assert!(rt; take_last_word(Some(b"ab ")).is_err());
     assert!(rt; take_part(Some(b" ")).is_ok());

@@ -7,6 +7,8 @@ ghost use Rattle.script_words.specs.Texts.{hex_value, stands_for_itself, scan, p
 
 use crate::fault::{Cause, Refused};
 use crate::numbers::decimal;
+use crate::words::all_shown;
+use memchr::memchr2;
 use plain_cord::{Items, Text};
 use std::alloc::Global;
 
@@ -75,24 +77,13 @@ fn scan_byte(mode: Mode, c: u8) -> Scan
     }
 }
 
-/// Whether the byte stands for itself.
-fn is_itself(c: u8) -> bool
-    ensures { result ≡ stands_for_itself c }
-{
-    32 <= c && c <= 126 && c != 34 && c != 92
-}
-
-/// How many bytes in front stand for themselves.
+/// So many bytes in front that stand for themselves: those before the first quote or backslash, or none where one of them isn't shown.
 fn plain_run(bytes: &[u8]) -> usize
     ensures within { result ≤ length bytes.now }
     ensures plain { list_all stands_for_itself (take result bytes.now) ≡ true }
 {
-    for (i, c) in bytes.iter().enumerate() {
-        if !is_itself(*c) {
-            return i;
-        }
-    }
-    bytes.len()
+    let run = memchr2(b'"', b'\\', bytes).unwrap_or(bytes.len());
+    if all_shown(&bytes[..run]) { run } else { 0 }
 }
 
 /// The bytes up to the closing quote, behind those in front, and what stands behind it.

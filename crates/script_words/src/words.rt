@@ -6,6 +6,7 @@ ghost use Rattle.script_words.specs.Reading.{Gives};
 ghost use Rattle.script_words.specs.Words.{cut, word_at, last_word_at, part_at, name_at, is_letter, is_digit, is_name_byte, is_shown, names};
 
 use crate::fault::{Cause, Refused};
+use memchr::memchr;
 use plain_cord::Items;
 use std::alloc::Global;
 
@@ -13,12 +14,22 @@ use std::alloc::Global;
 pub fn first_part(bytes: &[u8], separator: u8) -> (&[u8], Option<&[u8]>)
     ensures { (result.0.now, option_map (λ rest. rest.now) result.1) ≡ cut separator bytes.now }
 {
-    for (i, b) in bytes.iter().enumerate() {
-        if *b == separator {
-            return (&bytes[..i], Some(&bytes[i + 1..]));
+    match memchr(separator, bytes) {
+        None => (bytes, None),
+        Some(i) => (&bytes[..i], Some(&bytes[i + 1..])),
+    }
+}
+
+/// What stands before the first space, and what behind it. Words are short, so it goes byte by byte: a search takes longer to begin.
+pub fn first_word(line: &[u8]) -> (&[u8], Option<&[u8]>)
+    ensures { (result.0.now, option_map (λ rest. rest.now) result.1) ≡ cut 32 line.now }
+{
+    for (i, b) in line.iter().enumerate() {
+        if *b == b' ' {
+            return (&line[..i], Some(&line[i + 1..]));
         }
     }
-    (bytes, None)
+    (line, None)
 }
 
 /// The next word of a line, and what stands behind its space.
@@ -28,7 +39,7 @@ pub fn take_word(rest: Option<&[u8]>) -> Result<(&[u8], Option<&[u8]>), Refused>
     let Some(bytes) = rest else {
         return Err(Refused::Fault(Cause::Words));
     };
-    let (word, behind) = first_part(bytes, b' ');
+    let (word, behind) = first_word(bytes);
     if word.is_empty() {
         return Err(Refused::Fault(Cause::Words));
     }
@@ -84,16 +95,15 @@ fn all_name_bytes(word: &[u8]) -> bool
     true
 }
 
-/// Whether each byte is one that a line may have.
+/// Whether each byte is one that a line may have. It goes on behind a byte that isn't, so that many bytes can be tested at once.
 pub fn all_shown(line: &[u8]) -> bool
     ensures { result ≡ list_all is_shown line.now }
 {
+    let mut all = true;
     for c in line {
-        if *c < 32 || 126 < *c {
-            return false;
-        }
+        all = all & (32 <= *c && *c <= 126);
     }
-    true
+    all
 }
 
 /// Whether the word is a name: a letter `a` to `z` first, then letters or digits, sixteen bytes at most.
