@@ -1,3 +1,4 @@
+pub mod OrderedLines
 pub mod SameRuns
 pub mod StayLaws
 pub mod OtherNames

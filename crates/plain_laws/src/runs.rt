@@ -7,6 +7,7 @@ ghost use Rattle.plain_cord.specs.declared.script.Command.TheVariants as command
 ghost use Rattle.plain_cord.specs.declared.script.Session.{Session as Session_value};
 ghost use Rattle.plain_cord.specs.declared.reply.Reply.{Reply as Reply_value};
 ghost use Rattle.plain_cord.specs.declared.reply.Book.{Book as Book_value};
+ghost use Rattle.plain_cord.specs.declared.history.Entry.{Entry as Entry_value};
 ghost use Rattle.plain_cord.specs.Texts.{text_bytes};
 ghost use Rattle.plain_cord.specs.States.{Environment};
 ghost use Rattle.plain_cord.specs.Outcomes.{shown};
@@ -23,7 +24,8 @@ pub fn appended_texts_are_printed()
         → (before : List Reply_value) × (replies ≡ before ++ shown (text_bytes first ++ texts_bytes texts) ∷ []) }
 {}
 
-/// A script has one answer: two lists of books that are plain runs of it are the same.
+/// A script's answers follow from the history: two lists of books that are plain runs of it with the same history are the
+/// same.
 pub fn books_are_determined()
-    ensures { (sessions : List Session_value) (books others : List Book_value) → IsPlainRun sessions books → IsPlainRun sessions others → books ≡ others }
+    ensures { (sessions : List Session_value) (books others : List Book_value) (history : List Entry_value) → IsPlainRun sessions books history → IsPlainRun sessions others history → books ≡ others }
 {}
