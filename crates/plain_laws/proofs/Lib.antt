@@ -5,3 +5,5 @@ pub mod OtherNames
 pub mod AppendLaws
 pub mod SumLaws
 pub mod CarriedSums
+pub mod EffectKinds
+pub mod BoardLaws

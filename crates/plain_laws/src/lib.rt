@@ -3,11 +3,13 @@
 //! Each function does nothing; its contract is the law.
 #![tactic(auto)]
 
+mod board;
 mod changes;
 mod orders;
 mod runs;
 mod sums;
 
+pub use board::{other_names_and_cells_stay, refused_actions_change_nothing};
 pub use changes::{cuts_are_parts, other_names_stay, refusals_change_nothing};
 pub use orders::{first_place_is_one, order_is_total};
 pub use runs::{appended_texts_are_printed, books_are_determined};
