@@ -7,3 +7,4 @@ pub mod SumLaws
 pub mod CarriedSums
 pub mod EffectKinds
 pub mod BoardLaws
+pub mod ReplayLaws

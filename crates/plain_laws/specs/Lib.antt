@@ -1,4 +1,5 @@
 pub mod Targets
 pub mod Refusals
 pub mod Appends
+pub mod Replays
 pub mod Sums
