@@ -139,3 +139,11 @@ kinds p state cells (commands.Take cell a) e is = inr (inr (taking p state cells
 kinds p state cells (commands.Peek cell a) e is = inr (inr (peeking p state cells cell a (held_in cells cell) e refl (is_that _ e is)))
 kinds p state cells (commands.Swap a cell) e is = inr (swap p state cells a cell (state.names a) e (is_that _ e is))
 kinds p state cells command e is = inl (quiet state cells command (outcome state.names command) e refl refl is)
+
+-- a command that names no cell
+pub quiet-effect : (p : ℕ) (state : SessionState) (cells : Cells) (command : Command) (e : Effect) → PlainEffect p state cells command e → cell_of command ≡ None → IsQuiet state cells command e
+quiet-effect p state cells (commands.Put a cell) e is none = absurd (cc)
+quiet-effect p state cells (commands.Take cell a) e is none = absurd (cc)
+quiet-effect p state cells (commands.Peek cell a) e is none = absurd (cc)
+quiet-effect p state cells (commands.Swap a cell) e is none = absurd (cc)
+quiet-effect p state cells command e is none = quiet state cells command (outcome state.names command) e refl refl is

@@ -8,3 +8,4 @@ pub mod CarriedSums
 pub mod EffectKinds
 pub mod BoardLaws
 pub mod ReplayLaws
+pub mod AloneLaws

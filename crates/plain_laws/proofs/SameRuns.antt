@@ -12,11 +12,7 @@ use Rattle.plain_cord.specs.Effects.{SessionState, new_session, Cells, Effect, e
 use Rattle.plain_cord.specs.Deeds.{empty_cells}
 use Rattle.plain_cord.specs.RunOrders.{Line, acts, upto, beyond, tagged, replaced, rest_of, run_order, lines, commands_of, replies_of, lines_at}
 use Rattle.plain_cord.specs.Runs.{Plays, IsPlainRun}
-use Rattle.plain_laws.proofs.OrderedLines.{upto-beyond, replaced-here, replaced-other}
-
--- the commands of some lines
-abbrev asked : List Line → List Command
-asked xs = map (λ x. x.0) xs
+use Rattle.plain_laws.proofs.OrderedLines.{asked, answers, lines-asked, lines-answers, as-many, upto-beyond, replaced-here, replaced-other}
 
 -- from one state both go on
 abbrev BothPlay : List (ℕ × Line) → List (ℕ × Line) → Type 0
@@ -108,26 +104,6 @@ same-orders (e ∷ order) n f g states cells history other same one second p bel
     subst (λ (r : ℕ). f r ≡ g r) (sym here) joined)
     (λ elsewhere. sym (replaced-other f q p (beyond (f q)) elsewhere) ∙ (rest ∙ replaced-other g q p (beyond (g q)) elsewhere))
 
--- lines tell their commands and answers, where there are as many
-lines-asked : (cs : List Command) (rs : List Reply) → length rs ≡ length cs → asked (lines cs rs) ≡ cs
-lines-asked [] rs same = refl
-lines-asked (c ∷ cs) [] same = absurd (cc)
-lines-asked (c ∷ cs) (r ∷ rs) same = ap (λ (z : List Command). c ∷ z) (lines-asked cs rs (cc))
-
-lines-answers : (cs : List Command) (rs : List Reply) → length rs ≡ length cs → map (λ x. x.1) (lines cs rs) ≡ rs
-lines-answers [] [] same = refl
-lines-answers [] (r ∷ rs) same = absurd (cc)
-lines-answers (c ∷ cs) [] same = absurd (cc)
-lines-answers (c ∷ cs) (r ∷ rs) same = ap (λ (z : List Reply). r ∷ z) (lines-answers cs rs (cc))
-
--- each session has as many answers as commands
-as-many : (sessions : List Session) (books : List Book) → map length (replies_of books) ≡ map length (commands_of sessions) → (p : ℕ) → length (slice_index_or (replies_of books) p []) ≡ length (slice_index_or (commands_of sessions) p [])
-as-many [] [] same p = refl
-as-many [] (book ∷ books) same p = absurd (cc)
-as-many (session ∷ sessions) [] same p = absurd (cc)
-as-many (session ∷ sessions) (book ∷ books) same zero = cc
-as-many (session ∷ sessions) (book ∷ books) same (suc p) = as-many sessions books (cc) p
-
 same-answers : (sessions : List Session) (books others : List Book) → map length (replies_of books) ≡ map length (commands_of sessions) → map length (replies_of others) ≡ map length (commands_of sessions)
     → ((p : ℕ) → p < length sessions → lines_at sessions books p ≡ lines_at sessions others p) → books ≡ others
 same-answers [] [] [] one second same = refl
@@ -139,7 +115,7 @@ same-answers (session ∷ sessions) (book ∷ books) (other ∷ others) one seco
     let counted : length book.replies ≡ length session.commands = cc in
     let again : length other.replies ≡ length session.commands = cc in
     let first : lines session.commands book.replies ≡ lines session.commands other.replies = same 0 (omega arith) in
-    let answers : book.replies ≡ other.replies = sym (lines-answers session.commands book.replies counted) ∙ (ap (λ (ls : List Line). map (λ x. x.1) ls) first ∙ lines-answers session.commands other.replies again) in
+    let answers : book.replies ≡ other.replies = sym (lines-answers session.commands book.replies counted) ∙ (ap (λ (ls : List Line). answers ls) first ∙ lines-answers session.commands other.replies again) in
     let one_book : book ≡ other = ap (λ (r : List Reply). let b : Book = record { replies = r } in b) answers in
     ap (λ b. b ∷ books) one_book ∙ ap (λ bs. other ∷ bs) (same-answers sessions books others (cc) (cc) (λ p below. same (suc p) (omega arith)))
 

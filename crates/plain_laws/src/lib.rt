@@ -14,5 +14,7 @@ pub use board::{other_names_and_cells_stay, refused_actions_change_nothing};
 pub use changes::{cuts_are_parts, other_names_stay, refusals_change_nothing};
 pub use histories::histories_replay;
 pub use orders::{first_place_is_one, order_is_total};
-pub use runs::{appended_texts_are_printed, books_are_determined};
+pub use runs::{
+    appended_texts_are_printed, books_are_determined, sessions_without_cells_run_alone,
+};
 pub use sums::{changes_lose_sums, copies_keep_sums, sums_are_carried_or_lost, sums_are_not_seen};
