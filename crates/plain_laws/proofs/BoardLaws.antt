@@ -40,7 +40,7 @@ refused-cells p state cells command e is refusal = ⊎_elim
     ∙ (ap (λ o. slice_set cells a.cell o) (a.kept_cell (subst (λ (x : Effect). IsRefusal x.reply) a.effect_is refusal) ∙ a.found) ∙ set-held cells a.cell)))
     (kinds p state cells command e is)
 
-get-set_other : {X : Type 0} (xs : List X) (i j : ℕ) (x : X) → i ≢ j → slice_get (set xs i x) j ≡ slice_get xs j
+pub get-set_other : {X : Type 0} (xs : List X) (i j : ℕ) (x : X) → i ≢ j → slice_get (set xs i x) j ≡ slice_get xs j
 get-set_other [] i j x other = refl
 get-set_other (y ∷ xs) zero zero x other = absurd (other refl)
 get-set_other (y ∷ xs) zero (suc j) x other = refl

@@ -9,3 +9,4 @@ pub mod EffectKinds
 pub mod BoardLaws
 pub mod ReplayLaws
 pub mod AloneLaws
+pub mod PutLaws

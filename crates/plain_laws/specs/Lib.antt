@@ -1,5 +1,6 @@
 pub mod Targets
 pub mod Refusals
 pub mod Appends
+pub mod Moments
 pub mod Replays
 pub mod Sums

@@ -12,7 +12,7 @@ mod sums;
 
 pub use board::{other_names_and_cells_stay, refused_actions_change_nothing};
 pub use changes::{cuts_are_parts, other_names_stay, refusals_change_nothing};
-pub use histories::histories_replay;
+pub use histories::{histories_replay, taken_cords_were_put};
 pub use orders::{first_place_is_one, order_is_total};
 pub use runs::{
     appended_texts_are_printed, books_are_determined, sessions_without_cells_run_alone,
