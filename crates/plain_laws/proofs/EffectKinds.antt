@@ -1,5 +1,5 @@
 -- An effect leaves the board alone, tells that a name was never set, or is one action on the command's own cell.
-use Rattle.std.proofs.Common.{◌≡◌, ◌≢◌, ◌∙◌, refl, ℕ, List, Option, Some, None, inl, inr}
+use Rattle.std.proofs.Common.{◌≡◌, ◌≢◌, ◌∙◌, refl, ℕ, List, Option, Some, None, false, inl, inr}
 use Rattle.std.specs.Prelude.{◌⊎◌}
 use Rattle.std.specs.Option.{option_map}
 use Rattle.plain_cord.specs.declared.script.Command.{Command}
@@ -13,6 +13,8 @@ use Rattle.plain_cord.specs.States.{CordState, Environment, SameNames, empty_cor
 use Rattle.plain_cord.specs.Outcomes.{Outcome, answered, outcome}
 use Rattle.plain_cord.specs.Deeds.{after_of, IsProper}
 use Rattle.plain_cord.specs.Effects.{SessionState, Cells, Effect, held_in, apart, acting, with_own, with_given, done_or_empty, brought, PlainEffect}
+use Rattle.plain_cord.specs.RunOrders.{is_unset}
+use Rattle.plain_laws.specs.Actions.{asked_action}
 use Rattle.plain_laws.specs.Targets.{target, cell_of}
 use Rattle.plain_laws.specs.Refusals.{IsRefusal}
 use Rattle.plain_laws.proofs.OtherNames.{set-other}
@@ -38,6 +40,8 @@ pub record IsAction (p : ℕ) (state : SessionState) (cells : Cells) (command : 
   pub names : Environment
   pub reply : Reply
   pub own : cell_of command ≡ Some cell
+  pub asks : asked_action command ≡ Some (act, cell)
+  pub comes : is_unset reply ≡ false
   pub found : was ≡ held_in cells cell
   pub proper : IsProper act came was
   pub others : (name : List ℕ) → target command ≢ Some name → names name ≡ state.names name
@@ -63,6 +67,8 @@ put p state cells a cell (Some cord) e is = inr (record {
   names = with_name state.names a empty_cord;
   reply = replies.Done marks.Plain None;
   own = refl;
+  asks = refl;
+  comes = refl;
   found = refl;
   proper = refl;
   others = λ name other. set-other state.names a name empty_cord other;
@@ -72,9 +78,9 @@ put p state cells a cell (Some cord) e is = inr (record {
 })
 
 -- an action that found nothing
-empty-handed : (p : ℕ) (state : SessionState) (cells : Cells) (command : Command) (act : Act) (cell : ℕ) (e : Effect) → cell_of command ≡ Some cell → None ≡ held_in cells cell → IsProper {C = CordState} act None None → after_of {C = CordState} act None None ≡ None
+empty-handed : (p : ℕ) (state : SessionState) (cells : Cells) (command : Command) (act : Act) (cell : ℕ) (e : Effect) → cell_of command ≡ Some cell → asked_action command ≡ Some (act, cell) → None ≡ held_in cells cell → IsProper {C = CordState} act None None → after_of {C = CordState} act None None ≡ None
     → e ≡ acting p state cells act cell None None state.names (replies.Empty cell) → IsAction p state cells command e
-empty-handed p state cells command act cell e own found proper kept is = record {
+empty-handed p state cells command act cell e own asks found proper kept is = record {
   act = act;
   cell = cell;
   came = None;
@@ -82,6 +88,8 @@ empty-handed p state cells command act cell e own found proper kept is = record 
   names = state.names;
   reply = replies.Empty cell;
   own = own;
+  asks = asks;
+  comes = refl;
   found = found;
   proper = proper;
   others = λ name other. refl;
@@ -91,9 +99,9 @@ empty-handed p state cells command act cell e own found proper kept is = record 
 }
 
 -- an action that gave its name the cord which lay there
-given : (p : ℕ) (state : SessionState) (cells : Cells) (command : Command) (act : Act) (cell : ℕ) (a : List ℕ) (came : Option CordState) (lay : CordState) (e : Effect) → cell_of command ≡ Some cell → target command ≡ Some a → Some lay ≡ held_in cells cell → IsProper act came (Some lay)
+given : (p : ℕ) (state : SessionState) (cells : Cells) (command : Command) (act : Act) (cell : ℕ) (a : List ℕ) (came : Option CordState) (lay : CordState) (e : Effect) → cell_of command ≡ Some cell → asked_action command ≡ Some (act, cell) → target command ≡ Some a → Some lay ≡ held_in cells cell → IsProper act came (Some lay)
     → e ≡ acting p state cells act cell came (Some lay) (with_name state.names a lay) (replies.Done marks.Plain None) → IsAction p state cells command e
-given p state cells command act cell a came lay e own sets found proper is = record {
+given p state cells command act cell a came lay e own asks sets found proper is = record {
   act = act;
   cell = cell;
   came = came;
@@ -101,6 +109,8 @@ given p state cells command act cell a came lay e own sets found proper is = rec
   names = with_name state.names a lay;
   reply = replies.Done marks.Plain None;
   own = own;
+  asks = asks;
+  comes = refl;
   found = found;
   proper = proper;
   others = λ name other. set-other state.names a name lay (λ same. other (sets ∙ same));
@@ -111,18 +121,18 @@ given p state cells command act cell a came lay e own sets found proper is = rec
 
 taking : (p : ℕ) (state : SessionState) (cells : Cells) (cell : ℕ) (a : List ℕ) (was : Option CordState) (e : Effect) → was ≡ held_in cells cell
     → e ≡ acting p state cells Take cell None was (with_given state.names a was) (done_or_empty cell was) → IsAction p state cells (commands.Take cell a) e
-taking p state cells cell a None e found is = empty-handed p state cells (commands.Take cell a) Take cell e refl found refl refl is
-taking p state cells cell a (Some lay) e found is = given p state cells (commands.Take cell a) Take cell a None lay e refl refl found refl is
+taking p state cells cell a None e found is = empty-handed p state cells (commands.Take cell a) Take cell e refl refl found refl refl is
+taking p state cells cell a (Some lay) e found is = given p state cells (commands.Take cell a) Take cell a None lay e refl refl refl found refl is
 
 peeking : (p : ℕ) (state : SessionState) (cells : Cells) (cell : ℕ) (a : List ℕ) (was : Option CordState) (e : Effect) → was ≡ held_in cells cell
     → e ≡ acting p state cells Peek cell None was (with_given state.names a was) (done_or_empty cell was) → IsAction p state cells (commands.Peek cell a) e
-peeking p state cells cell a None e found is = empty-handed p state cells (commands.Peek cell a) Peek cell e refl found refl refl is
-peeking p state cells cell a (Some lay) e found is = given p state cells (commands.Peek cell a) Peek cell a None lay e refl refl found refl is
+peeking p state cells cell a None e found is = empty-handed p state cells (commands.Peek cell a) Peek cell e refl refl found refl refl is
+peeking p state cells cell a (Some lay) e found is = given p state cells (commands.Peek cell a) Peek cell a None lay e refl refl refl found refl is
 
 swapping : (p : ℕ) (state : SessionState) (cells : Cells) (a : List ℕ) (cell : ℕ) (cord : CordState) (was : Option CordState) (e : Effect) → was ≡ held_in cells cell
     → e ≡ acting p state cells Swap cell (brought cord was) was (with_given state.names a was) (done_or_empty cell was) → IsAction p state cells (commands.Swap a cell) e
-swapping p state cells a cell cord None e found is = empty-handed p state cells (commands.Swap a cell) Swap cell e refl found refl refl is
-swapping p state cells a cell cord (Some lay) e found is = given p state cells (commands.Swap a cell) Swap cell a (Some cord) lay e refl refl found refl is
+swapping p state cells a cell cord None e found is = empty-handed p state cells (commands.Swap a cell) Swap cell e refl refl found refl refl is
+swapping p state cells a cell cord (Some lay) e found is = given p state cells (commands.Swap a cell) Swap cell a (Some cord) lay e refl refl refl found refl is
 
 swap : (p : ℕ) (state : SessionState) (cells : Cells) (a : List ℕ) (cell : ℕ) (o : Option CordState) (e : Effect)
     → e ≡ with_own state cells a o (λ cord. acting p state cells Swap cell (brought cord (held_in cells cell)) (held_in cells cell) (with_given state.names a (held_in cells cell)) (done_or_empty cell (held_in cells cell)))

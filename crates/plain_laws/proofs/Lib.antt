@@ -10,3 +10,4 @@ pub mod BoardLaws
 pub mod ReplayLaws
 pub mod AloneLaws
 pub mod PutLaws
+pub mod ActionLaws

@@ -1,6 +1,7 @@
 -- The lines of a run: their commands and answers, and each session's own in the order of the run.
 use Rattle.std.proofs.Common.{◌≡◌, ◌≢◌, ◌∙◌, sym, ap, subst, refl, ℕ, zero, suc, ◌+◌, ◌<◌, ◌≤◌, List, [], ◌∷◌, ◌++◌, map, length, cond, Bool, true, false, Some, arith, eq-eqb, ne_eqb}
 use Rattle.std.specs.Prelude.{slice_get, slice_index_or, ◌==◌}
+use Rattle.std.proofs.lemmas.List.{length-map}
 use mathlib.Core.Logic.{dite}
 use native.Mathlib.Decide.{ℕ_discrete}
 use Rattle.plain_cord.specs.declared.script.Command.{Command}
@@ -92,6 +93,23 @@ lines_of-order (e ∷ history) p n f below =
     (lines_of-own p (upto (f q)) (run_order n later history) ∙ (ap (λ (ls : List Line). upto (f q) ++ ls) (rest ∙ replaced-here f q p (beyond (f q)) here) ∙ (upto-beyond (f q) ∙ ap f (sym here)))))
     (λ other. lines_of-other p q (upto (f q)) (run_order n later history) other ∙ (rest ∙ replaced-other f q p (beyond (f q)) other))
 
+-- a session that isn't one of the n has no line
+pub lines_of-none : (history : List Entry) (p n : ℕ) (f : ℕ → List Line) → n ≤ p → f p ≡ [] → lines_of p (run_order n f history) ≡ []
+lines_of-none [] p n f beyond_all none = past n 0 (omega arith)
+  where
+    past : (m k : ℕ) → k + m ≤ p → lines_of p (rest_of m k f) ≡ []
+    past zero k above = refl
+    past (suc m) k above = lines_of-other p k (f k) (rest_of m (suc k) f) (λ same. omega arith) ∙ past m (suc k) (omega arith)
+lines_of-none (e ∷ history) p n f beyond_all none =
+    let q : ℕ = e.session in
+    let later : ℕ → List Line = replaced f q (beyond (f q)) in
+    dite (ℕ_discrete p q)
+    (λ here.
+    let still : f q ≡ [] = ap f (sym here) ∙ none in
+    let rest : lines_of p (run_order n later history) ≡ [] = lines_of-none history p n later beyond_all (replaced-here f q p (beyond (f q)) here ∙ ap beyond still) in
+    ap (λ (ls : List Line). lines_of p (tagged q (upto ls) ++ run_order n later history)) still ∙ rest)
+    (λ other. lines_of-other p q (upto (f q)) (run_order n later history) other ∙ lines_of-none history p n later beyond_all (replaced-other f q p (beyond (f q)) other ∙ none))
+
 -- where a session and its book stand, their lines stand
 index-map : {X Y : Type 0} (f : X → Y) (xs : List X) (p : ℕ) (x : X) (d : Y) → slice_get xs p ≡ Some x → slice_index_or (map f xs) p d ≡ f x
 index-map f [] p x d at = absurd (cc)
@@ -107,3 +125,11 @@ lines_at-are sessions books p session book one other =
 pub as-many-at : (sessions : List Session) (books : List Book) (p : ℕ) (session : Session) (book : Book) → map length (replies_of books) ≡ map length (commands_of sessions) → slice_get sessions p ≡ Some session → slice_get books p ≡ Some book → length book.replies ≡ length session.commands
 as-many-at sessions books p session book same one other =
     ap length (sym (index-map (λ (b : Book). b.replies) books p book [] other)) ∙ (as-many sessions books same p ∙ ap length (index-map (λ (s : Session). s.commands) sessions p session [] one))
+
+index-past : {X : Type 0} (xs : List X) (p : ℕ) (d : X) → length xs ≤ p → slice_index_or xs p d ≡ d
+index-past [] p d past = refl
+index-past (x ∷ xs) zero d past = absurd (omega arith)
+index-past (x ∷ xs) (suc p) d past = index-past xs p d (omega arith)
+
+pub no-lines-past : (sessions : List Session) (books : List Book) (p : ℕ) → length sessions ≤ p → lines_at sessions books p ≡ []
+no-lines-past sessions books p past = ap (λ (cs : List Command). lines cs (slice_index_or (replies_of books) p [])) (index-past (commands_of sessions) p [] (simp length-map past))

@@ -1,6 +1,7 @@
 pub mod Targets
 pub mod Refusals
 pub mod Appends
+pub mod Actions
 pub mod Moments
 pub mod Replays
 pub mod Sums
