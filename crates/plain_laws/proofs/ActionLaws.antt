@@ -1,7 +1,6 @@
 -- The history tells each action of each session, and no other.
-use Rattle.std.proofs.Common.{◌≡◌, ◌∙◌, sym, ap, subst, refl, ℕ, ◌<◌, ◌≤◌, List, [], ◌∷◌, ◌++◌, length, cond, Option, Some, None, Bool, true, false, eq-eqb, ne_eqb, ⊎_elim}
+use Rattle.std.proofs.Common.{◌≡◌, ◌∙◌, sym, ap, subst, refl, ℕ, List, [], ◌∷◌, ◌++◌, length, cond, Option, Some, None, Bool, true, false, eq-eqb, ne_eqb, ⊎_elim}
 use Rattle.std.specs.List.{cons_option}
-use Rattle.std.proofs.lemmas.Bool.{cases_lt}
 use mathlib.Core.Logic.{dite}
 use native.Mathlib.Decide.{ℕ_discrete}
 use Rattle.plain_cord.specs.declared.script.Command.{Command}
@@ -17,8 +16,9 @@ use Rattle.plain_cord.specs.RunOrders.{Line, is_unset, acts, replaced, run_order
 use Rattle.plain_cord.specs.Runs.{Plays, IsPlainRun}
 use Rattle.plain_laws.specs.Targets.{cell_of}
 use Rattle.plain_laws.specs.Replays.{entries_of}
+use Rattle.plain_laws.specs.Lines.{lines_of}
 use Rattle.plain_laws.specs.Actions.{asked_action, actions_of, told_actions}
-use Rattle.plain_laws.proofs.OrderedLines.{lines_of, lines_of-order, lines_of-none, no-lines-past}
+use Rattle.plain_laws.proofs.OrderedLines.{each-line}
 use Rattle.plain_laws.proofs.EffectKinds.{IsQuiet, IsUnset, IsAction, kinds}
 
 -- what a line adds to the actions
@@ -83,12 +83,4 @@ told-lines p (x ∷ xs) states cells history plays =
 
 pub each-action : (sessions : List Session) (books : List Book) (history : List Entry) (p : ℕ) → IsPlainRun sessions books history → told_actions (entries_of p history) ≡ actions_of (lines_at sessions books p)
 each-action sessions books history p run =
-    let n : ℕ = length sessions in
-    let f : ℕ → List Line = lines_at sessions books in
-    let told : told_actions (entries_of p history) ≡ actions_of (lines_of p (run_order n f history)) = told-lines p (run_order n f history) (λ q. new_session) empty_cells history run.plays in
-    ⊎_elim
-    (λ (below : p < n). told ∙ ap actions_of (lines_of-order history p n f below))
-    (λ (past : n ≤ p).
-    let none : f p ≡ [] = no-lines-past sessions books p past in
-    told ∙ (ap actions_of (lines_of-none history p n f past none) ∙ ap actions_of (sym none)))
-    (cases_lt p n)
+    told-lines p (run_order (length sessions) (lines_at sessions books) history) (λ q. new_session) empty_cells history run.plays ∙ ap actions_of (each-line sessions books history p)

@@ -3,7 +3,6 @@ use Rattle.std.proofs.Common.{◌≡◌, ◌∙◌, sym, ap, subst, refl, ℕ, L
 use Rattle.std.specs.Prelude.{slice_get}
 use Rattle.std.specs.List.{All}
 use Rattle.std.proofs.lemmas.List.Elements.{All-head, All-tail}
-use Rattle.std.proofs.lemmas.Option.{slice_get_within}
 use mathlib.Core.Logic.{dite}
 use native.Mathlib.Decide.{ℕ_discrete}
 use Rattle.plain_cord.specs.declared.script.Command.{Command}
@@ -18,7 +17,8 @@ use Rattle.plain_cord.specs.Effects.{SessionState, new_session, Cells}
 use Rattle.plain_cord.specs.RunOrders.{Line, replaced, run_order, lines, lines_at}
 use Rattle.plain_cord.specs.Runs.{IsBookOf, Plays, IsPlainRun}
 use Rattle.plain_laws.specs.Targets.{cell_of}
-use Rattle.plain_laws.proofs.OrderedLines.{asked, answers, lines_of, lines_of-order, lines_at-are, as-many-at, lines-asked, lines-answers, replaced-here, replaced-other}
+use Rattle.plain_laws.specs.Lines.{lines_of}
+use Rattle.plain_laws.proofs.OrderedLines.{asked, answers, lines_at-are, as-many-at, lines-asked, lines-answers, replaced-here, replaced-other, each-line}
 use Rattle.plain_laws.proofs.EffectKinds.{quiet-effect}
 use Rattle.plain_laws.proofs.BoardLaws.{quiet-step}
 
@@ -47,7 +47,7 @@ pub runs-alone : (sessions : List Session) (books : List Book) (history : List E
     → All (λ command. cell_of command ≡ None) session.commands → IsBookOf session book
 runs-alone sessions books history p session book run one other apart =
     let order : List (ℕ × Line) = run_order (length sessions) (lines_at sessions books) history in
-    let own : lines_of p order ≡ lines session.commands book.replies = lines_of-order history p (length sessions) (lines_at sessions books) (slice_get_within sessions p session one) ∙ lines_at-are sessions books p session book one other in
+    let own : lines_of p order ≡ lines session.commands book.replies = each-line sessions books history p ∙ lines_at-are sessions books p session book one other in
     let counted : length book.replies ≡ length session.commands = as-many-at sessions books p session book run.answered one other in
     let said : asked (lines_of p order) ≡ session.commands = ap asked own ∙ lines-asked session.commands book.replies counted in
     let replied : answers (lines_of p order) ≡ book.replies = ap answers own ∙ lines-answers session.commands book.replies counted in

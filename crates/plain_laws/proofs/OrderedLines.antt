@@ -1,7 +1,8 @@
 -- The lines of a run: their commands and answers, and each session's own in the order of the run.
-use Rattle.std.proofs.Common.{◌≡◌, ◌≢◌, ◌∙◌, sym, ap, subst, refl, ℕ, zero, suc, ◌+◌, ◌<◌, ◌≤◌, List, [], ◌∷◌, ◌++◌, map, length, cond, Bool, true, false, Some, arith, eq-eqb, ne_eqb}
-use Rattle.std.specs.Prelude.{slice_get, slice_index_or, ◌==◌}
+use Rattle.std.proofs.Common.{◌≡◌, ◌≢◌, ◌∙◌, sym, ap, subst, refl, ℕ, zero, suc, ◌+◌, ◌<◌, ◌≤◌, List, [], ◌∷◌, ◌++◌, map, length, cond, Bool, true, false, Some, arith, eq-eqb, ne_eqb, ⊎_elim}
+use Rattle.std.specs.Prelude.{slice_get, slice_index_or}
 use Rattle.std.proofs.lemmas.List.{length-map}
+use Rattle.std.proofs.lemmas.Bool.{cases_lt}
 use mathlib.Core.Logic.{dite}
 use native.Mathlib.Decide.{ℕ_discrete}
 use Rattle.plain_cord.specs.declared.script.Command.{Command}
@@ -10,6 +11,7 @@ use Rattle.plain_cord.specs.declared.reply.Reply.{Reply}
 use Rattle.plain_cord.specs.declared.reply.Book.{Book}
 use Rattle.plain_cord.specs.declared.history.Entry.{Entry}
 use Rattle.plain_cord.specs.RunOrders.{Line, acts, upto, beyond, tagged, replaced, rest_of, run_order, lines, commands_of, replies_of, lines_at}
+use Rattle.plain_laws.specs.Lines.{lines_of}
 
 -- the commands of some lines
 abbrev pub asked : List Line → List Command
@@ -53,11 +55,6 @@ as-many (session ∷ sessions) [] same p = absurd (cc)
 as-many (session ∷ sessions) (book ∷ books) same zero = cc
 as-many (session ∷ sessions) (book ∷ books) same (suc p) = as-many sessions books (cc) p
 
--- of lines of several sessions those of p
-abbrev pub lines_of : ℕ → List (ℕ × Line) → List Line
-lines_of p [] = []
-lines_of p (x ∷ xs) = cond (p == x.0) (x.1 ∷ lines_of p xs) (lines_of p xs)
-
 lines_of-own : (p : ℕ) (xs : List Line) (ys : List (ℕ × Line)) → lines_of p (tagged p xs ++ ys) ≡ xs ++ lines_of p ys
 lines_of-own p [] ys = refl
 lines_of-own p (x ∷ xs) ys = ap (λ b. cond b (x ∷ lines_of p (tagged p xs ++ ys)) (lines_of p (tagged p xs ++ ys))) (eq-eqb p p refl) ∙ ap (λ (ls : List Line). x ∷ ls) (lines_of-own p xs ys)
@@ -94,7 +91,7 @@ lines_of-order (e ∷ history) p n f below =
     (λ other. lines_of-other p q (upto (f q)) (run_order n later history) other ∙ (rest ∙ replaced-other f q p (beyond (f q)) other))
 
 -- a session that isn't one of the n has no line
-pub lines_of-none : (history : List Entry) (p n : ℕ) (f : ℕ → List Line) → n ≤ p → f p ≡ [] → lines_of p (run_order n f history) ≡ []
+lines_of-none : (history : List Entry) (p n : ℕ) (f : ℕ → List Line) → n ≤ p → f p ≡ [] → lines_of p (run_order n f history) ≡ []
 lines_of-none [] p n f beyond_all none = past n 0 (omega arith)
   where
     past : (m k : ℕ) → k + m ≤ p → lines_of p (rest_of m k f) ≡ []
@@ -131,5 +128,16 @@ index-past [] p d past = refl
 index-past (x ∷ xs) zero d past = absurd (omega arith)
 index-past (x ∷ xs) (suc p) d past = index-past xs p d (omega arith)
 
-pub no-lines-past : (sessions : List Session) (books : List Book) (p : ℕ) → length sessions ≤ p → lines_at sessions books p ≡ []
+no-lines-past : (sessions : List Session) (books : List Book) (p : ℕ) → length sessions ≤ p → lines_at sessions books p ≡ []
 no-lines-past sessions books p past = ap (λ (cs : List Command). lines cs (slice_index_or (replies_of books) p [])) (index-past (commands_of sessions) p [] (simp length-map past))
+
+pub each-line : (sessions : List Session) (books : List Book) (history : List Entry) (p : ℕ) → lines_of p (run_order (length sessions) (lines_at sessions books) history) ≡ lines_at sessions books p
+each-line sessions books history p =
+    let n : ℕ = length sessions in
+    let f : ℕ → List Line = lines_at sessions books in
+    ⊎_elim
+    (λ (below : p < n). lines_of-order history p n f below)
+    (λ (past : n ≤ p).
+    let none : f p ≡ [] = no-lines-past sessions books p past in
+    lines_of-none history p n f past none ∙ sym none)
+    (cases_lt p n)

@@ -13,7 +13,9 @@ ghost use Rattle.plain_cord.specs.Texts.{text_bytes};
 ghost use Rattle.plain_cord.specs.States.{Environment};
 ghost use Rattle.plain_cord.specs.Outcomes.{shown};
 ghost use Rattle.plain_cord.specs.Steps.{PlainRun};
+ghost use Rattle.plain_cord.specs.RunOrders.{run_order, lines_at};
 ghost use Rattle.plain_cord.specs.Runs.{IsBookOf, IsPlainRun};
+ghost use Rattle.plain_laws.specs.Lines.{lines_of};
 ghost use Rattle.plain_laws.specs.Targets.{cell_of};
 ghost use Rattle.plain_laws.specs.Appends.{AppendsTo, texts_bytes};
 
@@ -24,6 +26,11 @@ pub fn appended_texts_are_printed()
         → AppendsTo a said texts → length (text_bytes first ++ texts_bytes texts) ≤ MOST_BYTES
         → PlainRun names (commands.Let a first ∷ said ++ commands.Print a ∷ []) replies now
         → (before : List Reply_value) × (replies ≡ before ++ shown (text_bytes first ++ texts_bytes texts) ∷ []) }
+{}
+
+/// The order of a run has the lines of each session, once each and in their order, whatever the history.
+pub fn orders_have_each_line()
+    ensures { (sessions : List Session_value) (books : List Book_value) (history : List Entry_value) (p : ℕ) → lines_of p (run_order (length sessions) (lines_at sessions books) history) ≡ lines_at sessions books p }
 {}
 
 /// A script's answers follow from the history: two lists of books that are plain runs of it with the same history are the
