@@ -7,7 +7,9 @@ use Rattle.plain_cord.specs.declared.script.Session.{Session}
 use Rattle.plain_cord.specs.declared.reply.Reply.{Reply}
 use Rattle.plain_cord.specs.declared.reply.Book.{Book}
 use Rattle.report_text.specs.Replies.{reply_text}
-use Rattle.report_text.specs.Outputs.{reply_line, reply_lines, session_line, output_text}
+use Rattle.plain_cord.specs.declared.history.Entry.{Entry}
+use Rattle.report_text.specs.Histories.{history_text, pool_line}
+use Rattle.report_text.specs.Outputs.{reply_line, reply_lines, session_line, books_text, output_text}
 use Rattle.report_text.specs.Readable.{IsReadableReply, IsReadable}
 use Rattle.report_text.proofs.Runs.{run_split}
 use Rattle.report_text.proofs.QuoteLaws.{in_line}
@@ -37,32 +39,34 @@ lines_split (x ∷ xs) (y ∷ ys) rest others p q r o e =
     behind : {xs ys : List ℕ} → 10 ∷ xs ≡ 10 ∷ ys → xs ≡ ys
     behind e = cc
 
-output-first : (session : Session) (sessions : List Session) (book : Book) (books : List Book) → output_text (session ∷ sessions) (book ∷ books) ≡ session_line session.name ++ (reply_lines book.replies ++ output_text sessions books)
-output-first session sessions book books = append_assoc (session_line session.name) (reply_lines book.replies) (output_text sessions books)
+books-first : (session : Session) (sessions : List Session) (book : Book) (books : List Book) (rest : List ℕ) → books_text (session ∷ sessions) (book ∷ books) ++ rest ≡ session_line session.name ++ (reply_lines book.replies ++ (books_text sessions books ++ rest))
+books-first session sessions book books rest = simp append_assoc
 
-output-at-end : (sessions : List Session) (books : List Book) → length books ≡ length sessions → at_end (output_text sessions books) ≡ true
-output-at-end [] [] e = refl
-output-at-end [] (book ∷ books) e = absurd (omega arith)
-output-at-end (session ∷ sessions) [] e = absurd (omega arith)
-output-at-end (session ∷ sessions) (book ∷ books) e = refl
+books-at-end : (sessions : List Session) (books : List Book) (rest : List ℕ) → length books ≡ length sessions → at_end rest ≡ true → at_end (books_text sessions books ++ rest) ≡ true
+books-at-end [] [] rest e end = end
+books-at-end [] (book ∷ books) rest e end = absurd (omega arith)
+books-at-end (session ∷ sessions) [] rest e end = absurd (omega arith)
+books-at-end (session ∷ sessions) (book ∷ books) rest e end = refl
 
 abbrev IsReadableBook : Book → Type 0
 IsReadableBook book = AllByRecursion IsReadableReply book.replies
 
-books_injective : (sessions : List Session) (books others : List Book) → length books ≡ length sessions → length others ≡ length sessions → AllByRecursion IsReadableBook books → AllByRecursion IsReadableBook others → output_text sessions books ≡ output_text sessions others → books ≡ others
-books_injective [] [] [] m n p q e = refl
-books_injective [] (book ∷ books) others m n p q e = absurd (omega arith)
-books_injective [] [] (other ∷ others) m n p q e = absurd (omega arith)
-books_injective (session ∷ sessions) [] others m n p q e = absurd (omega arith)
-books_injective (session ∷ sessions) (book ∷ books) [] m n p q e = absurd (omega arith)
-books_injective (session ∷ sessions) (book ∷ books) (other ∷ others) m n p q e =
+-- books up to the end of theirs
+books_split : (sessions : List Session) (books others : List Book) (rest later : List ℕ) → length books ≡ length sessions → length others ≡ length sessions → AllByRecursion IsReadableBook books → AllByRecursion IsReadableBook others → at_end rest ≡ true → at_end later ≡ true → books_text sessions books ++ rest ≡ books_text sessions others ++ later → (books ≡ others) × (rest ≡ later)
+books_split [] [] [] rest later m n p q r o e = (refl, e)
+books_split [] (book ∷ books) others rest later m n p q r o e = absurd (omega arith)
+books_split [] [] (other ∷ others) rest later m n p q r o e = absurd (omega arith)
+books_split (session ∷ sessions) [] others rest later m n p q r o e = absurd (omega arith)
+books_split (session ∷ sessions) (book ∷ books) [] rest later m n p q r o e = absurd (omega arith)
+books_split (session ∷ sessions) (book ∷ books) (other ∷ others) rest later m n p q r o e =
     let fewer : length books ≡ length sessions = omega arith in
     let less : length others ≡ length sessions = omega arith in
-    let texts = append_cancel_left (session_line session.name) (reply_lines book.replies ++ output_text sessions books) (reply_lines other.replies ++ output_text sessions others)
-    (sym (output-first session sessions book books) ∙ (e ∙ output-first session sessions other others)) in
-    let split = lines_split book.replies other.replies (output_text sessions books) (output_text sessions others) p.0 q.0 (output-at-end sessions books fewer) (output-at-end sessions others less) texts in
+    let texts = append_cancel_left (session_line session.name) (reply_lines book.replies ++ (books_text sessions books ++ rest)) (reply_lines other.replies ++ (books_text sessions others ++ later))
+    (sym (books-first session sessions book books rest) ∙ (e ∙ books-first session sessions other others later)) in
+    let split = lines_split book.replies other.replies (books_text sessions books ++ rest) (books_text sessions others ++ later) p.0 q.0 (books-at-end sessions books rest fewer r) (books-at-end sessions others later less o) texts in
     let first : book ≡ other = ap (λ replies. record { replies = replies }) split.0 in
-    ap₂ (λ book books. book ∷ books) first (books_injective sessions books others fewer less p.1 q.1 split.1)
+    let behind = books_split sessions books others rest later fewer less p.1 q.1 r o split.1 in
+    (ap₂ (λ book books. book ∷ books) first behind.0, behind.1)
 
 -- each answer of each book
 readable : (books : List Book) → AllByRecursion (λ book. All IsReadableReply book.replies) books → AllByRecursion IsReadableBook books
@@ -72,5 +76,8 @@ readable (book ∷ books) p = (recursion_from_All IsReadableReply book.replies p
 each : (books : List Book) → All (λ book. All IsReadableReply book.replies) books → AllByRecursion IsReadableBook books
 each books p = readable books (recursion_from_All (λ book. All IsReadableReply book.replies) books p)
 
-pub books_known : (sessions : List Session) (books others : List Book) → IsReadable sessions books → IsReadable sessions others → output_text sessions books ≡ output_text sessions others → books ≡ others
-books_known sessions books others p q e = books_injective sessions books others p.paired q.paired (each books p.replies) (each others q.replies) e
+pub books_known : (sessions : List Session) (books others : List Book) (history later : List Entry) (left rest pool : ℕ) → IsReadable sessions books → IsReadable sessions others → output_text sessions books history left pool ≡ output_text sessions others later rest pool
+    → (books ≡ others) × (history_text sessions history ++ pool_line left pool ≡ history_text sessions later ++ pool_line rest pool)
+books_known sessions books others history later left rest pool p q e =
+    books_split sessions books others (history_text sessions history ++ pool_line left pool) (history_text sessions later ++ pool_line rest pool) p.paired q.paired (each books p.replies) (each others q.replies) refl refl
+    (sym (append_assoc (books_text sessions books) (history_text sessions history) (pool_line left pool)) ∙ (e ∙ append_assoc (books_text sessions others) (history_text sessions later) (pool_line rest pool)))

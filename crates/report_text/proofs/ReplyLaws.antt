@@ -1,5 +1,5 @@
 -- Answers are known by their text, and none begins as a session's line does.
-use Rattle.std.proofs.Common.{◌≡◌, ◌∙◌, sym, ap, refl, ℕ, Bool, true, false, if◌then◌else◌, List, [], ◌∷◌, ◌++◌, get_or, arith, nat_eq, ◌==◌, ◌&&◌, Option, Some, None, IfSome, decimal, codes, append_assoc, append-nil, eqb-true}
+use Rattle.std.proofs.Common.{◌≡◌, ◌∙◌, sym, ap, refl, ℕ, Bool, true, false, if◌then◌else◌, List, [], ◌∷◌, ◌++◌, get_or, arith, nat_eq, ◌==◌, ◌&&◌, ◌||◌, Option, Some, None, IfSome, decimal, codes, append_assoc, append-nil, eqb-true}
 use Rattle.std.proofs.lemmas.List.{append_cancel_left}
 use Rattle.std.specs.List.{AllByRecursion}
 use Rattle.std.proofs.lemmas.Fmt.{decimal_injective}
@@ -103,10 +103,11 @@ variant (replies.Unset name) = 10
 variant replies.NoBytes = 11
 variant (replies.Position asked n) = 12
 variant (replies.Length asked) = 13
+variant (replies.Empty cell) = 14
 
 -- the variant of a text, by its first byte, or by its first and third
 abbrev refused_variant : ℕ → ℕ
-refused_variant b = if b == 117 then 10 else (if b == 110 then 11 else (if b == 112 then 12 else 13))
+refused_variant b = if b == 117 then 10 else (if b == 110 then 11 else (if b == 112 then 12 else (if b == 101 then 14 else 13)))
 
 abbrev word_variant : ℕ → ℕ → ℕ
 word_variant b c = if b == 111 then 0 else (if b == 115 then 2 else (if b == 110 then (if c == 110 then 3 else 9) else (if b == 34 then 4 else (if b == 108 then 5 else (if b == 101 then 6 else (if b == 103 then 7 else (if b == 121 then 8 else refused_variant c)))))))
@@ -134,6 +135,7 @@ variant_of-text (replies.Unset name) p = refl
 variant_of-text replies.NoBytes p = refl
 variant_of-text (replies.Position asked n) p = refl
 variant_of-text (replies.Length asked) p = refl
+variant_of-text (replies.Empty cell) p = refl
 
 same-variant : (x y : Reply) → IsReadableReply x → IsReadableReply y → reply_text x ≡ reply_text y → variant x ≡ variant y
 same-variant x y p q e = sym (variant_of-text x p) ∙ (ap variant_of e ∙ variant_of-text y q)
@@ -177,6 +179,7 @@ reply_injective (replies.Unset a) (replies.Unset b) p q e = ap (λ name. replies
 reply_injective replies.NoBytes replies.NoBytes p q e = refl
 reply_injective (replies.Position i m) (replies.Position j n) p q e = positions i j m n p.0 q.0 p.1 q.1 e
 reply_injective (replies.Length m) (replies.Length n) p q e = ap (λ k. replies.Length k) (decimal_injective m n p q (append_cancel_left (codes "! length ") (decimal m) (decimal n) e))
+reply_injective (replies.Empty m) (replies.Empty n) p q e = ap (λ k. replies.Empty k) (decimal_injective m n p q (append_cancel_left (codes "! empty ") (decimal m) (decimal n) e))
 reply_injective x y p q e = absurd (not-same (variant x) (variant y) (same-variant x y p q e) refl)
 
 -- no newline is in an answer
@@ -222,12 +225,13 @@ reply-in-line (replies.Unset name) p = name-in-line name (recursion_from_All IsI
 reply-in-line replies.NoBytes p = refl
 reply-in-line (replies.Position asked n) p = ap (all_pass in_line) (position-text asked n) ∙ all_pass-append in_line (decimal asked) (32 ∷ decimal n) (number-in-line asked p.0) (number-in-line n p.1)
 reply-in-line (replies.Length asked) p = number-in-line asked p
+reply-in-line (replies.Empty cell) p = number-in-line cell p
 
--- at the end of the text or before a session's line
+-- at the end of the text, before a session's line, or before the history's
 abbrev pub at_end : List ℕ → Bool
-at_end text = get_or text 0 115 == 115 && get_or text 1 101 == 101
+at_end text = get_or text 0 115 == 104 || (get_or text 0 115 == 115 && get_or text 1 101 == 101)
 
-digit-no-end : (b c : ℕ) → is_digit b ≡ true → (b == 115 && c == 101) ≡ false
+digit-no-end : (b c : ℕ) → is_digit b ≡ true → (b == 104 || (b == 115 && c == 101)) ≡ false
 digit-no-end b c digit = grind (arith, nat_tests)
 
 pub reply-no-end : (reply : Reply) (rest : List ℕ) → IsReadableReply reply → at_end (reply_text reply ++ rest) ≡ false
@@ -245,3 +249,4 @@ reply-no-end (replies.Unset name) rest p = refl
 reply-no-end replies.NoBytes rest p = refl
 reply-no-end (replies.Position asked n) rest p = refl
 reply-no-end (replies.Length asked) rest p = refl
+reply-no-end (replies.Empty cell) rest p = refl

@@ -33,6 +33,7 @@ IsReadableReply (replies.Shown text more) = All IsByte text × IsNumber more
 IsReadableReply (replies.Unset name) = All IsInLine name
 IsReadableReply (replies.Position asked n) = IsNumber asked × IsNumber n
 IsReadableReply (replies.Length asked) = IsNumber asked
+IsReadableReply (replies.Empty cell) = IsNumber cell
 IsReadableReply _ = Unit {0}
 
 -- one book for each session, of readable answers
