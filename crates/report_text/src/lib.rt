@@ -13,7 +13,7 @@ mod writing;
 
 pub use laws::{
     different_books_print_differently, different_replies_print_differently,
-    plain_runs_are_printable,
+    different_runs_print_differently, plain_runs_are_printable,
 };
 pub use refusing::write_refusal;
 pub use summing::write_summary;
