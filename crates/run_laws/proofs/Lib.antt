@@ -4,3 +4,4 @@ pub mod FitSteps
 pub mod Counts
 pub mod ReadableRuns
 pub mod ByteLaws
+pub mod ShortLaws

@@ -7,12 +7,19 @@ ghost use Rattle.plain_cord.specs.declared.history.Entry.{Entry as Entry_value};
 ghost use Rattle.plain_cord.specs.Runs.{IsPlainRun};
 ghost use Rattle.script_reader.specs.ScriptSpelling.{Spells};
 ghost use Rattle.script_reader.specs.Limits.{IsWithinLimits};
-ghost use Rattle.report_text.specs.Outputs.{output_text};
+ghost use Rattle.report_text.specs.Outputs.{output_text, IsPrintable};
 ghost use Rattle.report_text.specs.Readable.{IsReadable};
 ghost use Rattle.run_laws.specs.ByteTexts.{HaveByteTexts};
 
-use report_text::different_runs_print_differently;
+use report_text::{different_runs_print_differently, plain_runs_are_printable};
 use script_reader::spelled_script_is_within_limits;
+
+/// Every plain run of a script within the limits can be written.
+pub fn plain_runs_within_limits_are_printable()
+    ensures { (script : Script_value) (books : List Book_value) (history : List Entry_value) → IsWithinLimits script → IsPlainRun script.sessions books history → IsPrintable script.sessions books history }
+{
+    plain_runs_are_printable();
+}
 
 /// The texts of a script that is spelled are of bytes.
 pub fn spelled_texts_are_bytes()
