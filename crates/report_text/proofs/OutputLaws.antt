@@ -10,7 +10,7 @@ use Rattle.report_text.specs.Replies.{reply_text}
 use Rattle.plain_cord.specs.declared.history.Entry.{Entry}
 use Rattle.report_text.specs.Histories.{history_text, pool_line}
 use Rattle.report_text.specs.Outputs.{reply_line, reply_lines, session_line, books_text, output_text}
-use Rattle.report_text.specs.Readable.{IsReadableReply, IsReadable}
+use Rattle.report_text.specs.Readable.{IsReadableReply, AreReadable}
 use Rattle.report_text.proofs.Runs.{run_split}
 use Rattle.report_text.proofs.QuoteLaws.{in_line}
 use Rattle.report_text.proofs.ReplyLaws.{reply_injective, reply-in-line, at_end, reply-no-end}
@@ -76,7 +76,7 @@ readable (book ∷ books) p = (recursion_from_All IsReadableReply book.replies p
 each : (books : List Book) → All (λ book. All IsReadableReply book.replies) books → AllByRecursion IsReadableBook books
 each books p = readable books (recursion_from_All (λ book. All IsReadableReply book.replies) books p)
 
-pub books_known : (sessions : List Session) (books others : List Book) (history later : List Entry) (left rest pool : ℕ) → IsReadable sessions books history → IsReadable sessions others later → output_text sessions books history left pool ≡ output_text sessions others later rest pool
+pub books_known : (sessions : List Session) (books others : List Book) (history later : List Entry) (left rest pool : ℕ) → AreReadable sessions books → AreReadable sessions others → output_text sessions books history left pool ≡ output_text sessions others later rest pool
     → (books ≡ others) × (history_text sessions history ++ pool_line left pool ≡ history_text sessions later ++ pool_line rest pool)
 books_known sessions books others history later left rest pool p q e =
     books_split sessions books others (history_text sessions history ++ pool_line left pool) (history_text sessions later ++ pool_line rest pool) p.paired q.paired (each books p.replies) (each others q.replies) refl refl

@@ -55,10 +55,14 @@ IsInWord b = ¬ (b ≡ 32)
 abbrev pub NamesDiffer : List Session → Type 0
 NamesDiffer sessions = (p q : ℕ) → p < length sessions → q < length sessions → name_at sessions p ≡ name_at sessions q → p ≡ q
 
--- one book for each session, of readable answers, and a history of these sessions, whose names are words that differ
-pub record IsReadable (sessions : List Session) (books : List Book) (history : List Entry) : Type 0 where
+-- one book for each session, of readable answers
+pub record AreReadable (sessions : List Session) (books : List Book) : Type 0 where
   pub paired : length books ≡ length sessions
   pub replies : All (λ book. All IsReadableReply book.replies) books
+
+-- with a history of these sessions, whose names are words that differ
+pub record IsReadable (sessions : List Session) (books : List Book) (history : List Entry) : Type 0 where
+  pub answers : AreReadable sessions books
   pub names : All (λ session. All IsInWord session.name) sessions
   pub differ : NamesDiffer sessions
   pub entries : All (IsReadableEntry (length sessions)) history

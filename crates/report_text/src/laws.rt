@@ -9,7 +9,7 @@ ghost use Rattle.report_text.specs.Replies.{reply_text};
 ghost use Rattle.plain_cord.specs.Runs.{IsPlainRun};
 ghost use Rattle.report_text.specs.Outputs.{output_text, IsPrintable};
 ghost use Rattle.report_text.specs.ShortNames.{HasShortNames};
-ghost use Rattle.report_text.specs.Readable.{IsNumber, IsReadableReply, IsReadable};
+ghost use Rattle.report_text.specs.Readable.{IsNumber, IsReadableReply, AreReadable, IsReadable};
 
 /// Different answers have different texts.
 pub fn different_replies_print_differently()
@@ -19,7 +19,7 @@ pub fn different_replies_print_differently()
 /// Different books of the same sessions never print the same, whatever the histories and the pool are.
 pub fn different_books_print_differently()
     ensures { (sessions : List Session_value) (books : List Book_value) (others : List Book_value) (history : List Entry_value) (later : List Entry_value) (left : ℕ) (rest : ℕ) (pool : ℕ)
-        → IsReadable sessions books history → IsReadable sessions others later → output_text sessions books history left pool ≡ output_text sessions others later rest pool → books ≡ others }
+        → AreReadable sessions books → AreReadable sessions others → output_text sessions books history left pool ≡ output_text sessions others later rest pool → books ≡ others }
 {}
 
 /// Different runs of the same sessions never print the same: the text tells the books, the history, and how many of

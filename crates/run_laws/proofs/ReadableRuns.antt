@@ -70,9 +70,11 @@ module _ (script : Script) (books : List Book) (history : List Entry) (limits : 
 
   pub run-readable : IsReadable script.sessions books history
   run-readable = record {
-    paired = books-paired script.sessions books run.answered;
-    replies = All-from_recursion (λ book. All IsReadableReply book.replies) books
-        (books-answered IsReadableReply script.sessions books run.answered (λ p below. order-each (λ _ line. IsReadableReply line.1) history (length script.sessions) (lines_at script.sessions books) p below played.0));
+    answers = record {
+      paired = books-paired script.sessions books run.answered;
+      replies = All-from_recursion (λ book. All IsReadableReply book.replies) books
+          (books-answered IsReadableReply script.sessions books run.answered (λ p below. order-each (λ _ line. IsReadableReply line.1) history (length script.sessions) (lines_at script.sessions books) p below played.0));
+    };
     names = λ k d inside. name-in-word _ (limits.sessions k d inside).name;
     differ = names-differ script.sessions limits.differ;
     entries = All-from_recursion (IsReadableEntry (length script.sessions)) history (notes-readable (length script.sessions) history played.1);
