@@ -10,7 +10,7 @@ use Rattle.plain_cord.specs.declared.history.Act.TheVariants.{Put, Take, Peek, S
 use Rattle.plain_cord.specs.declared.history.Entry.{Entry}
 use Rattle.report_text.specs.Histories.{act_word, lengths_text, entry_text, name_at, entry_line, entry_lines, history_text, pool_line}
 use Rattle.report_text.specs.Outputs.{HasProperLengths}
-use Rattle.report_text.specs.Readable.{IsNumber, IsInWord, NamesDiffer, IsReadableEntry}
+use Rattle.report_text.specs.Readable.{IsNumber, IsInWord, NamesDiffer, IsReadableEntry, IsReadableHistory}
 use Rattle.report_text.proofs.Runs.{all_pass, both-pass, run_split, decimal_split}
 
 behind-one : {a : ℕ} {xs ys : List ℕ} → a ∷ xs ≡ a ∷ ys → xs ≡ ys
@@ -183,13 +183,13 @@ history-lines sessions history rest = parts (decimal (length history)) (entry_li
 pool-text : (left pool : ℕ) → pool_line left pool ≡ codes "pool " ++ (decimal left ++ 32 ∷ (codes "of " ++ (decimal pool ++ 10 ∷ [])))
 pool-text left pool = simp append_assoc
 
-pub histories_known : (sessions : List Session) (history later : List Entry) (left rest pool : ℕ) → All (λ session. All IsInWord session.name) sessions → NamesDiffer sessions → All (IsReadableEntry (length sessions)) history → All (IsReadableEntry (length sessions)) later
-    → IsNumber (length history) → IsNumber (length later) → IsNumber left → IsNumber rest → history_text sessions history ++ pool_line left pool ≡ history_text sessions later ++ pool_line rest pool → (history ≡ later) × (left ≡ rest)
-histories_known sessions history later left rest pool words differ p q few others m n e =
+pub histories_known : (sessions : List Session) (history later : List Entry) (left rest pool : ℕ) → IsReadableHistory sessions history → IsReadableHistory sessions later → IsNumber left → IsNumber rest
+    → history_text sessions history ++ pool_line left pool ≡ history_text sessions later ++ pool_line rest pool → (history ≡ later) × (left ≡ rest)
+histories_known sessions history later left rest pool p q m n e =
     let texts = append_cancel_left (codes "history ") (decimal (length history) ++ 10 ∷ (entry_lines sessions history ++ pool_line left pool)) (decimal (length later) ++ 10 ∷ (entry_lines sessions later ++ pool_line rest pool))
     (sym (history-lines sessions history (pool_line left pool)) ∙ (e ∙ history-lines sessions later (pool_line rest pool))) in
-    let counts = decimal_split (length history) (length later) (10 ∷ (entry_lines sessions history ++ pool_line left pool)) (10 ∷ (entry_lines sessions later ++ pool_line rest pool)) few others refl refl texts in
-    let split = entries_split sessions history later (pool_line left pool) (pool_line rest pool) (recursion_from_All (λ session. All IsInWord session.name) sessions words) differ
-    (recursion_from_All (IsReadableEntry (length sessions)) history p) (recursion_from_All (IsReadableEntry (length sessions)) later q) counts.0 (behind-one counts.1) in
+    let counts = decimal_split (length history) (length later) (10 ∷ (entry_lines sessions history ++ pool_line left pool)) (10 ∷ (entry_lines sessions later ++ pool_line rest pool)) p.few q.few refl refl texts in
+    let split = entries_split sessions history later (pool_line left pool) (pool_line rest pool) (recursion_from_All (λ session. All IsInWord session.name) sessions p.names) p.differ
+    (recursion_from_All (IsReadableEntry (length sessions)) history p.entries) (recursion_from_All (IsReadableEntry (length sessions)) later q.entries) counts.0 (behind-one counts.1) in
     let pools = append_cancel_left (codes "pool ") (decimal left ++ 32 ∷ (codes "of " ++ (decimal pool ++ 10 ∷ []))) (decimal rest ++ 32 ∷ (codes "of " ++ (decimal pool ++ 10 ∷ []))) (sym (pool-text left pool) ∙ (split.1 ∙ pool-text rest pool)) in
     (split.0, (decimal_split left rest (32 ∷ (codes "of " ++ (decimal pool ++ 10 ∷ []))) (32 ∷ (codes "of " ++ (decimal pool ++ 10 ∷ []))) m n refl refl pools).0)

@@ -22,6 +22,11 @@ IsByte b = b < 256
 abbrev pub IsInLine : ℕ → Type 0
 IsInLine b = ¬ (b ≡ 10)
 
+-- an answer of one line: the name in it has no newline
+abbrev pub IsInLineReply : Reply → Type 0
+IsInLineReply (replies.Unset name) = All IsInLine name
+IsInLineReply _ = Unit {0}
+
 abbrev pub IsReadableMark : NewMark → Type 0
 IsReadableMark Plain = Unit {0}
 IsReadableMark (Noted stamp update n) = IsNumber stamp × IsNumber update × IsNumber n
@@ -55,15 +60,23 @@ IsInWord b = ¬ (b ≡ 32)
 abbrev pub NamesDiffer : List Session → Type 0
 NamesDiffer sessions = (p q : ℕ) → p < length sessions → q < length sessions → name_at sessions p ≡ name_at sessions q → p ≡ q
 
+-- one book for each session, of answers of one line
+pub record AreInLine (sessions : List Session) (books : List Book) : Type 0 where
+  pub paired : length books ≡ length sessions
+  pub replies : All (λ book. All IsInLineReply book.replies) books
+
 -- one book for each session, of readable answers
 pub record AreReadable (sessions : List Session) (books : List Book) : Type 0 where
   pub paired : length books ≡ length sessions
   pub replies : All (λ book. All IsReadableReply book.replies) books
 
--- with a history of these sessions, whose names are words that differ
-pub record IsReadable (sessions : List Session) (books : List Book) (history : List Entry) : Type 0 where
-  pub answers : AreReadable sessions books
+-- a history of these sessions, whose names are words that differ
+pub record IsReadableHistory (sessions : List Session) (history : List Entry) : Type 0 where
   pub names : All (λ session. All IsInWord session.name) sessions
   pub differ : NamesDiffer sessions
   pub entries : All (IsReadableEntry (length sessions)) history
   pub few : IsNumber (length history)
+
+pub record IsReadable (sessions : List Session) (books : List Book) (history : List Entry) : Type 0 where
+  pub answers : AreReadable sessions books
+  pub actions : IsReadableHistory sessions history

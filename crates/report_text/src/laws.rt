@@ -9,7 +9,7 @@ ghost use Rattle.report_text.specs.Replies.{reply_text};
 ghost use Rattle.plain_cord.specs.Runs.{IsPlainRun};
 ghost use Rattle.report_text.specs.Outputs.{output_text, IsPrintable};
 ghost use Rattle.report_text.specs.ShortNames.{HasShortNames};
-ghost use Rattle.report_text.specs.Readable.{IsNumber, IsReadableReply, AreReadable, IsReadable};
+ghost use Rattle.report_text.specs.Readable.{IsNumber, IsReadableReply, AreInLine, AreReadable, IsReadableHistory, IsReadable};
 
 /// Different answers have different texts.
 pub fn different_replies_print_differently()
@@ -20,6 +20,14 @@ pub fn different_replies_print_differently()
 pub fn different_books_print_differently()
     ensures { (sessions : List Session_value) (books : List Book_value) (others : List Book_value) (history : List Entry_value) (later : List Entry_value) (left : ℕ) (rest : ℕ) (pool : ℕ)
         → AreReadable sessions books → AreReadable sessions others → output_text sessions books history left pool ≡ output_text sessions others later rest pool → books ≡ others }
+{}
+
+/// Different histories of the same sessions never print the same, whatever the answers in front of them are, as long as
+/// each is one line.
+pub fn different_histories_print_differently()
+    ensures { (sessions : List Session_value) (books : List Book_value) (others : List Book_value) (history : List Entry_value) (later : List Entry_value) (left : ℕ) (rest : ℕ) (pool : ℕ)
+        → AreInLine sessions books → AreInLine sessions others → IsReadableHistory sessions history → IsReadableHistory sessions later → IsNumber left → IsNumber rest
+        → output_text sessions books history left pool ≡ output_text sessions others later rest pool → (history ≡ later) × (left ≡ rest) }
 {}
 
 /// Different runs of the same sessions never print the same: the text tells the books, the history, and how many of

@@ -12,8 +12,9 @@ mod summing;
 mod writing;
 
 pub use laws::{
-    different_books_print_differently, different_replies_print_differently,
-    different_runs_print_differently, plain_runs_are_printable,
+    different_books_print_differently, different_histories_print_differently,
+    different_replies_print_differently, different_runs_print_differently,
+    plain_runs_are_printable,
 };
 pub use refusing::write_refusal;
 pub use summing::write_summary;

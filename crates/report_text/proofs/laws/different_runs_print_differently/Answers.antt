@@ -6,5 +6,5 @@ use Rattle.report_text.proofs.laws.different_runs_print_differently.Goals as goa
 pub returns : goal.returns
 returns c = λ sessions books others history later left rest pool p q m n e.
     let split = books_known sessions books others history later left rest pool p.answers q.answers e in
-    let same = histories_known sessions history later left rest pool p.names p.differ p.entries q.entries p.few q.few m n split.1 in
+    let same = histories_known sessions history later left rest pool p.actions q.actions m n split.1 in
     (split.0, same.0, same.1)
