@@ -1,4 +1,4 @@
--- Cords of bytes that are not too many, with a sum of 32 bits.
+-- Cords of bytes that pass a test and are not too many, with a sum of 32 bits.
 use Rattle.std.proofs.Common.{◌≡◌, sym, ℕ, zero, suc, ◌*◌, ◌<◌, ◌≤◌, ◌^◌, List, [], ◌∷◌, length, take, drop, replicate, arith, Option, Some, None, IfSome, length-append, option_map, mul-suc, mul-zero}
 use Rattle.std.specs.Prelude.{nat_eq, ◌==◌, slice_get, slice_set}
 use Rattle.std.specs.List.{All, AllByRecursion, starts_with}
@@ -9,23 +9,8 @@ use Rattle.plain_cord.specs.declared.script.Text.{Text}
 use Rattle.plain_cord.specs.Texts.{repeated, text_bytes, place_of}
 use Rattle.plain_cord.specs.States.{CordState, Environment, plain, empty_cord, changed, with_name}
 use Rattle.plain_cord.specs.Effects.{Cells, held_in}
-use Rattle.report_text.specs.Readable.{IsByte}
 use Rattle.report_text.proofs.RunLines.{all-both}
 use Rattle.script_reader.specs.Limits.{IsShort}
-
-pub record IsFitCord (cord : CordState) : Type 0 where
-  pub bytes : AllByRecursion IsByte cord.bytes
-  pub size : length cord.bytes ≤ MOST_BYTES
-  pub sum : IfSome cord.sum (λ value. value < 2 ^ 32)
-
-pub fit-plain : (bytes : List ℕ) → AllByRecursion IsByte bytes → length bytes ≤ MOST_BYTES → IsFitCord (plain bytes)
-fit-plain bytes all few = record { bytes = all; size = few; sum = tt }
-
-pub fit-empty : IsFitCord empty_cord
-fit-empty = fit-plain [] tt (omega arith)
-
-pub fit-changed : (cord : CordState) (bytes : List ℕ) → IsFitCord cord → AllByRecursion IsByte bytes → length bytes ≤ MOST_BYTES → IsFitCord (changed cord bytes)
-fit-changed cord bytes fit all few = cond_both (length bytes == length cord.bytes) cord (plain bytes) IsFitCord (λ _. fit) (λ _. fit-plain bytes all few)
 
 -- ---- parts of byte strings
 
@@ -53,9 +38,6 @@ length-repeated : (piece : List ℕ) (times : ℕ) → length (repeated piece ti
 length-repeated piece zero = sym (mul-zero (length piece))
 length-repeated piece (suc times) = omega (arith, length-append piece (repeated piece times), length-repeated piece times, mul-suc (length piece) times)
 
-pub text-bytes : (text : Text) → All IsByte text.piece → AllByRecursion IsByte (text_bytes text)
-text-bytes text h = all-repeated IsByte text.piece text.times (recursion_from_All IsByte text.piece h)
-
 pub text-short : (least : ℕ) (text : Text) → IsShort least text → length (text_bytes text) ≤ 1048576
 text-short least text h = omega (arith, length-repeated text.piece text.times, h.1)
 
@@ -68,27 +50,45 @@ place-within (b ∷ bytes) needle = cond_both (starts_with nat_eq (b ∷ bytes) 
     next None h = tt
     next (Some n) h = omega arith
 
--- ---- names and cells
+-- ---- cords, names and cells
 
-abbrev pub AreFitNames : Environment → Type 0
-AreFitNames names = (name : List ℕ) → IfSome (names name) IsFitCord
+pub record IsFitCord (P : ℕ → Type 0) (cord : CordState) : Type 0 where
+  pub bytes : AllByRecursion P cord.bytes
+  pub size : length cord.bytes ≤ MOST_BYTES
+  pub sum : IfSome cord.sum (λ value. value < 2 ^ 32)
 
-pub fit-set : (names : Environment) (a : List ℕ) (cord : CordState) → AreFitNames names → IsFitCord cord → AreFitNames (with_name names a cord)
-fit-set names a cord fit new = λ name. cond_both _ (Some cord) (names name) (λ o. IfSome o IsFitCord) (λ _. new) (λ _. fit name)
+module _ (P : ℕ → Type 0) where
+  pub text-bytes : (text : Text) → All P text.piece → AllByRecursion P (text_bytes text)
+  text-bytes text h = all-repeated P text.piece text.times (recursion_from_All P text.piece h)
 
-abbrev pub AreFitCells : Cells → Type 0
-AreFitCells cells = AllByRecursion (λ o. IfSome o IsFitCord) cells
+  pub fit-plain : (bytes : List ℕ) → AllByRecursion P bytes → length bytes ≤ MOST_BYTES → IsFitCord P (plain bytes)
+  fit-plain bytes all few = record { bytes = all; size = few; sum = tt }
 
-pub fit-held : (cells : Cells) (cell : ℕ) → AreFitCells cells → IfSome (held_in cells cell) IsFitCord
-fit-held [] cell h = tt
-fit-held (o ∷ cells) zero h = h.0
-fit-held (o ∷ cells) (suc cell) h = fit-held cells cell h.1
+  pub fit-empty : IsFitCord P empty_cord
+  fit-empty = fit-plain [] tt (omega arith)
 
-pub fit-cell : (cells : Cells) (cell : ℕ) (o : Option CordState) → AreFitCells cells → IfSome o IsFitCord → AreFitCells (slice_set cells cell o)
-fit-cell [] cell o h new = tt
-fit-cell (x ∷ cells) zero o h new = (new, h.1)
-fit-cell (x ∷ cells) (suc cell) o h new = (h.0, fit-cell cells cell o h.1 new)
+  pub fit-changed : (cord : CordState) (bytes : List ℕ) → IsFitCord P cord → AllByRecursion P bytes → length bytes ≤ MOST_BYTES → IsFitCord P (changed cord bytes)
+  fit-changed cord bytes fit all few = cond_both (length bytes == length cord.bytes) cord (plain bytes) (IsFitCord P) (λ _. fit) (λ _. fit-plain bytes all few)
 
-pub fit-none : (n : ℕ) → AreFitCells (replicate n None)
-fit-none zero = tt
-fit-none (suc n) = (tt, fit-none n)
+  abbrev pub AreFitNames : Environment → Type 0
+  AreFitNames names = (name : List ℕ) → IfSome (names name) (IsFitCord P)
+
+  pub fit-set : (names : Environment) (a : List ℕ) (cord : CordState) → AreFitNames names → IsFitCord P cord → AreFitNames (with_name names a cord)
+  fit-set names a cord fit new = λ name. cond_both _ (Some cord) (names name) (λ o. IfSome o (IsFitCord P)) (λ _. new) (λ _. fit name)
+
+  abbrev pub AreFitCells : Cells → Type 0
+  AreFitCells cells = AllByRecursion (λ o. IfSome o (IsFitCord P)) cells
+
+  pub fit-held : (cells : Cells) (cell : ℕ) → AreFitCells cells → IfSome (held_in cells cell) (IsFitCord P)
+  fit-held [] cell h = tt
+  fit-held (o ∷ cells) zero h = h.0
+  fit-held (o ∷ cells) (suc cell) h = fit-held cells cell h.1
+
+  pub fit-cell : (cells : Cells) (cell : ℕ) (o : Option CordState) → AreFitCells cells → IfSome o (IsFitCord P) → AreFitCells (slice_set cells cell o)
+  fit-cell [] cell o h new = tt
+  fit-cell (x ∷ cells) zero o h new = (new, h.1)
+  fit-cell (x ∷ cells) (suc cell) o h new = (h.0, fit-cell cells cell o h.1 new)
+
+  pub fit-none : (n : ℕ) → AreFitCells (replicate n None)
+  fit-none zero = tt
+  fit-none (suc n) = (tt, fit-none n)

@@ -1,18 +1,20 @@
 -- The names of scripts within the limits are short.
 use Rattle.std.proofs.Common.{ℕ, ◌<◌, List, [], ◌∷◌, length, arith}
-use Rattle.std.specs.List.{All, AllByRecursion}
+use Rattle.std.specs.Prelude.{◌&&◌, nat_lt}
+use Rattle.std.specs.List.{All, AllByRecursion, list_all}
 use Rattle.std.proofs.lemmas.Bool.{and_parts, ltb-true}
 use Rattle.std.proofs.lemmas.List.Elements.{All-from_recursion}
 use Rattle.plain_cord.specs.declared.script.Command.{Command}
 use Rattle.plain_cord.specs.declared.script.Command.TheVariants as commands
 use Rattle.plain_cord.specs.declared.script.Session.{Session}
+use Rattle.script_words.specs.Words.{is_letter, is_name_byte}
 use Rattle.script_words.specs.Spelling.{IsName}
 use Rattle.script_reader.specs.Limits.{HasSoundParts, IsSoundSession}
 use Rattle.report_text.specs.ShortNames.{names_in, IsShortName, HasShortNames}
 
 name-short : (a : List ℕ) → IsName a → IsShortName a
 name-short [] name = omega arith
-name-short (c ∷ cs) name = let few : length cs < 16 = ltb-true (length cs) 16 (and_parts _ _ name).1 in omega arith
+name-short (c ∷ cs) name = let few : length cs < 16 = ltb-true (length cs) 16 (and_parts (is_letter c && list_all is_name_byte cs) (nat_lt (length cs) 16) name).1 in omega arith
 
 names-short : (command : Command) → HasSoundParts command → AllByRecursion IsShortName (names_in command)
 names-short (commands.Let a text) parts = (name-short a parts.0, tt)

@@ -1,5 +1,5 @@
 -- Scripts whose texts are of bytes, as each script is that was read.
-use Rattle.std.specs.Prelude.{List, Option, Some, None, IfSome}
+use Rattle.std.specs.Prelude.{List, Option, Some, None, IfSome, ℕ}
 use Rattle.std.specs.List.{All}
 use Rattle.plain_cord.specs.declared.script.Text.{Text}
 use Rattle.plain_cord.specs.declared.script.Command.{Command}
@@ -18,8 +18,12 @@ text_of (commands.Starts a text) = Some text
 text_of (commands.Ends a text) = Some text
 text_of _ = None
 
+-- each byte of its text is one of these
+abbrev pub HasTextOf : (ℕ → Type 0) → Command → Type 0
+HasTextOf P command = IfSome (text_of command) (λ text. All P text.piece)
+
 abbrev pub HasByteText : Command → Type 0
-HasByteText command = IfSome (text_of command) (λ text. All IsByte text.piece)
+HasByteText = HasTextOf IsByte
 
 abbrev pub HaveByteTexts : List Session → Type 0
 HaveByteTexts sessions = All (λ session. All HasByteText session.commands) sessions

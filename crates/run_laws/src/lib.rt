@@ -5,6 +5,6 @@
 mod texts;
 
 pub use texts::{
-    different_runs_of_a_script_print_differently, plain_runs_are_readable,
-    plain_runs_within_limits_are_printable, spelled_texts_are_bytes,
+    different_runs_of_a_script_print_differently, histories_of_a_script_print_differently,
+    plain_runs_are_readable, plain_runs_within_limits_are_printable, spelled_texts_are_bytes,
 };

@@ -11,7 +11,10 @@ ghost use Rattle.report_text.specs.Outputs.{output_text, IsPrintable};
 ghost use Rattle.report_text.specs.Readable.{IsReadable};
 ghost use Rattle.run_laws.specs.ByteTexts.{HaveByteTexts};
 
-use report_text::{different_runs_print_differently, plain_runs_are_printable};
+use report_text::{
+    different_histories_print_differently, different_runs_print_differently,
+    plain_runs_are_printable,
+};
 use script_reader::spelled_script_is_within_limits;
 
 /// Every plain run of a script within the limits can be written.
@@ -30,8 +33,17 @@ pub fn spelled_texts_are_bytes()
 /// there are.
 pub fn plain_runs_are_readable()
     ensures readable { (script : Script_value) (books : List Book_value) (history : List Entry_value) → IsWithinLimits script → HaveByteTexts script.sessions → IsPlainRun script.sessions books history → IsReadable script.sessions books history }
-    ensures cells { (script : Script_value) (books : List Book_value) (history : List Entry_value) → IsWithinLimits script → HaveByteTexts script.sessions → IsPlainRun script.sessions books history → All (λ entry. entry.cell < 64) history }
+    ensures cells { (script : Script_value) (books : List Book_value) (history : List Entry_value) → IsWithinLimits script → IsPlainRun script.sessions books history → All (λ entry. entry.cell < 64) history }
 {}
+
+/// The text of a run tells its history, whatever the bytes of the script's texts are.
+pub fn histories_of_a_script_print_differently()
+    ensures { (script : Script_value) (books : List Book_value) (others : List Book_value) (history : List Entry_value) (later : List Entry_value)
+        → IsWithinLimits script → IsPlainRun script.sessions books history → IsPlainRun script.sessions others later
+        → output_text script.sessions books history 0 script.pool ≡ output_text script.sessions others later 0 script.pool → history ≡ later }
+{
+    different_histories_print_differently();
+}
 
 /// Two different runs of one script never print the same: the text tells each answer and the order of all actions.
 pub fn different_runs_of_a_script_print_differently()

@@ -6,4 +6,4 @@ pub returns-clause-readable : goal.returns-clause-readable
 returns-clause-readable c = λ script books history limits texts run. run-readable script books history limits texts run
 
 pub returns-clause-cells : goal.returns-clause-cells
-returns-clause-cells c = λ script books history limits texts run. run-cells script books history limits texts run
+returns-clause-cells c = λ script books history limits run. run-cells script books history limits run
