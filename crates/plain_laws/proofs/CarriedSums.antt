@@ -12,9 +12,9 @@ use Rattle.plain_cord.specs.declared.script.Command.TheVariants as commands
 use Rattle.plain_cord.specs.declared.reply.Reply.{Reply}
 use Rattle.plain_cord.specs.declared.reply.Reply.TheVariants as replies
 use Rattle.plain_cord.specs.Texts.{text_bytes}
-use Rattle.plain_cord.specs.States.{CordState, Environment, SameNames, plain, empty_cord, changed, with_name}
+use Rattle.plain_cord.specs.States.{CordState, Environment, plain, empty_cord, changed, with_name}
 use Rattle.plain_cord.specs.Outcomes.{Outcome, outcome, with_found, with_cord, keeping, edited, refused, grown, cut}
-use Rattle.plain_cord.specs.Steps.{IsOutcome, PlainStep, PlainRun}
+use Rattle.plain_cord.specs.Steps.{IsOutcome, PlainRun}
 use Rattle.plain_laws.specs.Targets.{target}
 use Rattle.plain_laws.specs.Sums.{GivesSum}
 use Rattle.plain_laws.proofs.OtherNames.{others-stay}

@@ -1,6 +1,13 @@
+pub mod OrderedLines
 pub mod SameRuns
 pub mod StayLaws
 pub mod OtherNames
 pub mod AppendLaws
 pub mod SumLaws
 pub mod CarriedSums
+pub mod EffectKinds
+pub mod BoardLaws
+pub mod ReplayLaws
+pub mod AloneLaws
+pub mod PutLaws
+pub mod ActionLaws

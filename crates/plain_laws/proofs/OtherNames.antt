@@ -12,7 +12,7 @@ use Rattle.plain_cord.specs.Steps.{IsOutcome, PlainStep}
 use Rattle.plain_laws.specs.Targets.{target}
 
 -- setting a name leaves the others
-set-other : (names : Environment) (a name : List ℕ) (cord : CordState) → Some a ≢ Some name → with_name names a cord name ≡ names name
+pub set-other : (names : Environment) (a name : List ℕ) (cord : CordState) → Some a ≢ Some name → with_name names a cord name ≡ names name
 set-other names a name cord other = cond_both (bytes_eq a name) (Some cord) (names name) (λ o. o ≡ names name) (λ yes. absurd (other (ap Some ((bytes_eq-Decides a name).0 yes)))) (λ no. refl)
 
 abbrev LeavesName : Environment → List ℕ → Option Outcome → Type 0

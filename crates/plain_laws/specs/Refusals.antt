@@ -7,4 +7,5 @@ IsRefusal (replies.Unset name) = Unit {0}
 IsRefusal replies.NoBytes = Unit {0}
 IsRefusal (replies.Position asked n) = Unit {0}
 IsRefusal (replies.Length asked) = Unit {0}
+IsRefusal (replies.Empty cell) = Unit {0}
 IsRefusal _ = ⊥

@@ -1,4 +1,4 @@
--- The name that a command may set.
+-- The name that a command may set, and the cell that it names.
 use Rattle.std.specs.Prelude.{ℕ, List, Option, Some, None}
 use Rattle.plain_cord.specs.declared.script.Command.{Command}
 use Rattle.plain_cord.specs.declared.script.Command.TheVariants as commands
@@ -31,3 +31,11 @@ target (commands.Swap a cell) = Some a
 target commands.Snap = None
 target commands.Walk = None
 target commands.Unsnap = None
+
+-- the cell that a command names
+abbrev pub cell_of : Command → Option ℕ
+cell_of (commands.Put a cell) = Some cell
+cell_of (commands.Take cell a) = Some cell
+cell_of (commands.Peek cell a) = Some cell
+cell_of (commands.Swap a cell) = Some cell
+cell_of _ = None

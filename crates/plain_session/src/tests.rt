@@ -1,4 +1,4 @@
-//! Each public call once, on small cords.
+//! Each public call once, on small cords, and commands at the edges of their numbers.
 ghost use Rattle.std.specs.Prelude.{◌*◌, ◌≤◌, length, IfOk};
 ghost use Rattle.plain_session.specs.Commands.{IsByteCommand};
 
@@ -80,5 +80,91 @@ fn commands_are_run(rt: HostRuntime) -> Result<(), Fail> {
     assert!(rt; is_done(&names.run(&second)?));
     assert!(rt; is_done(&names.run(&join)?));
     assert!(rt; matches!(names.run(&size)?, Reply::Number { value: 7 }));
+    Ok(())
+}
+
+#[derive(Clone, Copy)]
+enum Kind {
+    CutFront,
+    CutBack,
+    At,
+    SetSum,
+    Find,
+    Starts,
+    Ends,
+}
+
+// A command on `x`; a text is so many times `aa`.
+fn command_of(alloc: Global, kind: Kind, n: u64) -> Result<Command, AllocError>
+    ensures { IfOk result (λ command. IsByteCommand command) }
+{
+    let a = Items::from_slice(alloc, b"x")?;
+    let piece = Items::from_slice(alloc, b"aa")?;
+    let times = (n % 256) as u32;
+    let text = Text { piece, times };
+    Ok(match kind {
+        Kind::CutFront => Command::CutFront { a, n },
+        Kind::CutBack => Command::CutBack { a, n },
+        Kind::At => Command::At { a, i: n },
+        Kind::SetSum => {
+            Command::SetSum {
+                a,
+                value: u32::try_from(n).unwrap_or(u32::MAX),
+            }
+        }
+        Kind::Find => Command::Find { a, text },
+        Kind::Starts => Command::Starts { a, text },
+        Kind::Ends => Command::Ends { a, text },
+    })
+}
+
+// The answer where `x` is so many letters `a`.
+fn answer_at(alloc: Global, length: u16, command: &Command) -> Result<String, AllocError>
+    requires { IsByteCommand command.now }
+{
+    let first = set(alloc, b"x", b"a", length as u32)?;
+    let mut names = Names::new(alloc);
+    names.run(&first)?;
+    let reply = names.run(command)?;
+    format!(in alloc; "{reply:?}")
+}
+
+const DONE: &str = "Done { new: Plain, gone: None }";
+
+#[test]
+fn commands_answer_at_the_edges_of_their_numbers(rt: HostRuntime) -> Result<(), Fail> {
+    for (kind, length, n, wanted) in [
+        (Kind::CutFront, 0, 0, DONE),
+        (Kind::CutFront, 0, 1, "Position { asked: 1, size: 0 }"),
+        (Kind::CutFront, 16, 16, DONE),
+        (Kind::CutBack, 16, 16, DONE),
+        (
+            Kind::CutBack,
+            15,
+            u64::MAX,
+            "Position { asked: 18446744073709551615, size: 15 }",
+        ),
+        (Kind::At, 16, 15, "Number { value: 97 }"),
+        (
+            Kind::At,
+            16,
+            u64::MAX,
+            "Position { asked: 18446744073709551615, size: 16 }",
+        ),
+        (Kind::SetSum, 0, 0, "NoBytes"),
+        (Kind::SetSum, 1, 0, DONE),
+        (Kind::SetSum, 1, 4294967295, DONE),
+        (Kind::Find, 0, 0, "Number { value: 0 }"),
+        (Kind::Find, 15, 7, "Number { value: 0 }"),
+        (Kind::Find, 15, 8, "None"),
+        (Kind::Starts, 0, 0, "Yes"),
+        (Kind::Starts, 16, 8, "Yes"),
+        (Kind::Starts, 16, 255, "No"),
+        (Kind::Ends, 0, 0, "Yes"),
+        (Kind::Ends, 1, 1, "No"),
+    ] {
+        let command = command_of(rt.alloc(), kind, n)?;
+        assert_eq!(rt; answer_at(rt.alloc(), length, &command)?.as_str(), wanted);
+    }
     Ok(())
 }
