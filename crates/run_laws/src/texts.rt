@@ -11,11 +11,8 @@ ghost use Rattle.report_text.specs.Outputs.{output_text, IsPrintable};
 ghost use Rattle.report_text.specs.Readable.{IsReadable};
 ghost use Rattle.run_laws.specs.ByteTexts.{HaveByteTexts};
 
-use report_text::{
-    different_histories_print_differently, different_runs_print_differently,
-    plain_runs_are_printable,
-};
-use script_reader::spelled_script_is_within_limits;
+use plain_laws::books_are_determined;
+use report_text::{different_histories_print_differently, plain_runs_are_printable};
 
 /// Every plain run of a script within the limits can be written.
 pub fn plain_runs_within_limits_are_printable()
@@ -47,15 +44,10 @@ pub fn histories_of_a_script_print_differently()
 
 /// Two different runs of one script never print the same: the text tells each answer and the order of all actions.
 pub fn different_runs_of_a_script_print_differently()
-    ensures within { (script : Script_value) (books : List Book_value) (others : List Book_value) (history : List Entry_value) (later : List Entry_value)
-        → IsWithinLimits script → HaveByteTexts script.sessions → IsPlainRun script.sessions books history → IsPlainRun script.sessions others later
-        → output_text script.sessions books history 0 script.pool ≡ output_text script.sessions others later 0 script.pool → (books ≡ others) × (history ≡ later) }
-    ensures spelled { (bytes : List ℕ) (script : Script_value) (books : List Book_value) (others : List Book_value) (history : List Entry_value) (later : List Entry_value)
-        → Spells bytes script → IsPlainRun script.sessions books history → IsPlainRun script.sessions others later
+    ensures { (script : Script_value) (books : List Book_value) (others : List Book_value) (history : List Entry_value) (later : List Entry_value)
+        → IsWithinLimits script → IsPlainRun script.sessions books history → IsPlainRun script.sessions others later
         → output_text script.sessions books history 0 script.pool ≡ output_text script.sessions others later 0 script.pool → (books ≡ others) × (history ≡ later) }
 {
-    different_runs_print_differently();
-    spelled_script_is_within_limits();
-    spelled_texts_are_bytes();
-    plain_runs_are_readable();
+    histories_of_a_script_print_differently();
+    books_are_determined();
 }

@@ -1,14 +1,11 @@
--- Both runs can be read back.
-use Rattle.std.proofs.Common.{arith}
+-- The text tells the history, and the history the books.
+use Rattle.std.proofs.Common.{sym, subst, List}
+use Rattle.plain_cord.specs.declared.history.Entry.{Entry}
+use Rattle.plain_cord.specs.Runs.{IsPlainRun}
 use Rattle.run_laws.proofs.texts.different_runs_of_a_script_print_differently.Goals as goal
 
-pub returns-clause-within : goal.returns-clause-within
-returns-clause-within c = λ script books others history later limits texts one other e.
-    let readable = c.plain_runs_are_readable.ensures.readable in
-    let told = c.different_runs_print_differently.ensures script.sessions books others history later 0 0 script.pool (readable script books history limits texts one) (readable script others later limits texts other) (omega arith) (omega arith) e in
-    (told.0, told.1)
-
-pub returns-clause-spelled : goal.returns-clause-spelled
-returns-clause-spelled c = λ bytes script books others history later spells one other e.
-    let limits = c.spelled_script_is_within_limits.ensures bytes script spells in
-    returns-clause-within c script books others history later limits (c.spelled_texts_are_bytes.ensures bytes script spells) one other e
+pub returns : goal.returns
+returns c = λ script books others history later limits one other e.
+    let same = c.histories_of_a_script_print_differently.ensures script books others history later limits one other e in
+    let alike = subst (λ (entries : List Entry). IsPlainRun script.sessions others entries) (sym same) other in
+    (c.books_are_determined.ensures script.sessions books others history one alike, same)
