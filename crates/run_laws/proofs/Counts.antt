@@ -104,7 +104,7 @@ less-total (suc n) k f s above below = first (k == s) refl (λ past. less-total 
         let now : replaced f s (beyond (f s)) k ≡ f k = ap (λ b. cond b (beyond (f s)) (f k)) other in
         omega (arith, ap length now, on (after k s above other))
 
--- a list of lines, or none where the session isn't among n
+-- the order of a run has no more lines than its n sessions, where no other session has any
 order-total : (history : List Entry) (n : ℕ) (f : ℕ → List Line) → ((p : ℕ) → n ≤ p → f p ≡ []) → length (run_order n f history) ≤ total n 0 f
 order-total [] n f none = omega (arith, rest-total n 0 f)
 order-total (e ∷ es) n f none =
