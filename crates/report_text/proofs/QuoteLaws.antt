@@ -72,19 +72,19 @@ quoted_split (x ∷ xs) (y ∷ ys) rest others px py e =
 abbrev pub in_line : ℕ → Bool
 in_line b = if b == 10 then false else true
 
-digit-in-line : (n : ℕ) → n < 16 → in_line (hex_digit n) ≡ true
-digit-in-line n below = grind (arith, nat_tests)
+digit-in-line : (n : ℕ) → in_line (hex_digit n) ≡ true
+digit-in-line n = grind (arith, nat_tests)
 
-escape-in-line : (b : ℕ) → b < 256 → all_pass in_line (hex_escape b) ≡ true
-escape-in-line b below = rw (digit-in-line (b / 16) (omega arith), digit-in-line (b % 16) (omega arith)) refl
+escape-in-line : (b : ℕ) → all_pass in_line (hex_escape b) ≡ true
+escape-in-line b = rw (digit-in-line (b / 16), digit-in-line (b % 16)) refl
 
-by-in-line : (quote backslash newline shown : Bool) (b : ℕ) → b < 256 → b == 10 ≡ newline → all_pass in_line (quoted_by quote backslash newline shown b) ≡ true
-by-in-line true backslash newline shown b below n = refl
-by-in-line false true newline shown b below n = refl
-by-in-line false false true shown b below n = refl
-by-in-line false false false true b below n = rw n refl
-by-in-line false false false false b below n = escape-in-line b below
+by-in-line : (quote backslash newline shown : Bool) (b : ℕ) → b == 10 ≡ newline → all_pass in_line (quoted_by quote backslash newline shown b) ≡ true
+by-in-line true backslash newline shown b n = refl
+by-in-line false true newline shown b n = refl
+by-in-line false false true shown b n = refl
+by-in-line false false false true b n = rw n refl
+by-in-line false false false false b n = escape-in-line b
 
-pub quoted-in-line : (bytes : List ℕ) → AllByRecursion IsByte bytes → all_pass in_line (quoted_bytes bytes) ≡ true
-quoted-in-line [] p = refl
-quoted-in-line (b ∷ bytes) p = all_pass-append in_line (quoted_byte b) (quoted_bytes bytes) (by-in-line (b == 34) (b == 92) (b == 10) (nat_le 32 b && nat_le b 126) b p.0 refl) (quoted-in-line bytes p.1)
+pub quoted-in-line : (bytes : List ℕ) → all_pass in_line (quoted_bytes bytes) ≡ true
+quoted-in-line [] = refl
+quoted-in-line (b ∷ bytes) = all_pass-append in_line (quoted_byte b) (quoted_bytes bytes) (by-in-line (b == 34) (b == 92) (b == 10) (nat_le 32 b && nat_le b 126) b refl) (quoted-in-line bytes)

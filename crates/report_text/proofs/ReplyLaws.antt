@@ -1,5 +1,5 @@
--- Answers are known by their text, and none begins as a session's line does.
-use Rattle.std.proofs.Common.{◌≡◌, ◌∙◌, sym, ap, refl, ℕ, Bool, true, false, if◌then◌else◌, List, [], ◌∷◌, ◌++◌, get_or, arith, nat_eq, ◌==◌, ◌&&◌, Option, Some, None, IfSome, decimal, codes, append_assoc, append-nil, eqb-true}
+-- Answers are known by their text.
+use Rattle.std.proofs.Common.{◌≡◌, ◌∙◌, sym, ap, refl, ℕ, Bool, true, false, if◌then◌else◌, List, [], ◌∷◌, ◌++◌, get_or, arith, nat_eq, ◌==◌, Option, Some, None, IfSome, decimal, codes, append_assoc, append-nil, eqb-true}
 use Rattle.std.proofs.lemmas.List.{append_cancel_left}
 use Rattle.std.specs.List.{AllByRecursion}
 use Rattle.std.proofs.lemmas.Fmt.{decimal_injective}
@@ -11,9 +11,9 @@ use Rattle.plain_cord.specs.declared.reply.Reply.{Reply}
 use Rattle.plain_cord.specs.declared.reply.Reply.TheVariants as replies
 use Rattle.report_text.specs.Quotes.{quoted_bytes}
 use Rattle.report_text.specs.Replies.{mark_text, gone_text, more_text, reply_text}
-use Rattle.report_text.specs.Readable.{IsNumber, IsByte, IsInLine, IsReadableMark, IsReadableReply}
-use Rattle.report_text.proofs.Runs.{all_pass, all_pass-append, stops, both-pass, is_digit, decimal-passes, decimal_split, decimal-begins, decimal-first}
-use Rattle.report_text.proofs.QuoteLaws.{in_line, quoted_split, quoted-in-line}
+use Rattle.report_text.specs.Readable.{IsNumber, IsByte, IsReadableMark, IsReadableReply}
+use Rattle.report_text.proofs.Runs.{stops, is_digit, decimal_split, decimal-begins, decimal-first}
+use Rattle.report_text.proofs.QuoteLaws.{quoted_split}
 
 -- behind two bytes that are the same
 behind-two : {a b : ℕ} {xs ys : List ℕ} → a ∷ b ∷ xs ≡ a ∷ b ∷ ys → xs ≡ ys
@@ -47,10 +47,10 @@ gone-no-note (Some n) stamp rest g s e = space-or-point (decimal_split n stamp (
 
 gone-not-full : (gone lost : Option ℕ) → IfSome gone IsNumber → gone_text gone ≡ codes " ~full" ++ gone_text lost → ⊥
 gone-not-full None lost g e = cc
-gone-not-full (Some n) lost g e = decimal-begins n (codes " gone") (codes "full" ++ gone_text lost) g (behind-two e) refl
+gone-not-full (Some n) lost g e = decimal-begins n (codes " gone") (codes "full" ++ gone_text lost) (behind-two e) refl
 
 note-not-full : (stamp : ℕ) (rest : List ℕ) (lost : Option ℕ) → IsNumber stamp → 32 ∷ 126 ∷ (decimal stamp ++ rest) ≡ codes " ~full" ++ gone_text lost → ⊥
-note-not-full stamp rest lost s e = decimal-begins stamp rest (codes "full" ++ gone_text lost) s (behind-two e) refl
+note-not-full stamp rest lost s e = decimal-begins stamp rest (codes "full" ++ gone_text lost) (behind-two e) refl
 
 marks_injective : (new other : NewMark) (gone lost : Option ℕ) → IsReadableMark new → IsReadableMark other → IfSome gone IsNumber → IfSome lost IsNumber → mark_text new ++ gone_text gone ≡ mark_text other ++ gone_text lost → (new ≡ other) × (gone ≡ lost)
 marks_injective Plain Plain gone lost n o g l e = (refl, gone_injective gone lost g l e)
@@ -81,10 +81,10 @@ more-by false false m n p q f s e = decimal_injective m n p q (behind-two e)
 more_injective : (m n : ℕ) → IsNumber m → IsNumber n → more_text m ≡ more_text n → m ≡ n
 more_injective m n p q e = more-by (m == 0) (n == 0) m n p q refl refl e
 
-shown-text : (text : List ℕ) (more : ℕ) → reply_text (replies.Shown text more) ≡ 34 ∷ (quoted_bytes text ++ 34 ∷ more_text more)
+pub shown-text : (text : List ℕ) (more : ℕ) → reply_text (replies.Shown text more) ≡ 34 ∷ (quoted_bytes text ++ 34 ∷ more_text more)
 shown-text text more = ap (λ rest. 34 ∷ rest) (append_assoc (quoted_bytes text) (34 ∷ []) (more_text more))
 
-position-text : (asked n : ℕ) → reply_text (replies.Position asked n) ≡ codes "! position " ++ (decimal asked ++ 32 ∷ decimal n)
+pub position-text : (asked n : ℕ) → reply_text (replies.Position asked n) ≡ codes "! position " ++ (decimal asked ++ 32 ∷ decimal n)
 position-text asked n = ap (λ rest. codes "! position " ++ rest) (append_assoc (decimal asked) (32 ∷ []) (decimal n))
 
 -- the variants, counted
@@ -103,10 +103,11 @@ variant (replies.Unset name) = 10
 variant replies.NoBytes = 11
 variant (replies.Position asked n) = 12
 variant (replies.Length asked) = 13
+variant (replies.Empty cell) = 14
 
 -- the variant of a text, by its first byte, or by its first and third
 abbrev refused_variant : ℕ → ℕ
-refused_variant b = if b == 117 then 10 else (if b == 110 then 11 else (if b == 112 then 12 else 13))
+refused_variant b = if b == 117 then 10 else (if b == 110 then 11 else (if b == 112 then 12 else (if b == 101 then 14 else 13)))
 
 abbrev word_variant : ℕ → ℕ → ℕ
 word_variant b c = if b == 111 then 0 else (if b == 115 then 2 else (if b == 110 then (if c == 110 then 3 else 9) else (if b == 34 then 4 else (if b == 108 then 5 else (if b == 101 then 6 else (if b == 103 then 7 else (if b == 121 then 8 else refused_variant c)))))))
@@ -116,7 +117,7 @@ variant_of text = if is_digit (get_or text 0 0) then 1 else word_variant (get_or
 
 variant_of-number : (n : ℕ) → IsNumber n → variant_of (decimal n) ≡ 1
 variant_of-number n small =
-    let digit : is_digit (get_or (decimal n) 0 0) ≡ true = ap (λ text. is_digit (get_or text 0 0)) (sym (append-nil (decimal n))) ∙ decimal-first n [] 0 small in
+    let digit : is_digit (get_or (decimal n) 0 0) ≡ true = ap (λ text. is_digit (get_or text 0 0)) (sym (append-nil (decimal n))) ∙ decimal-first n [] 0 in
     ap (λ b. if b then 1 else word_variant (get_or (decimal n) 0 0) (get_or (decimal n) 2 0)) digit
 
 variant_of-text : (reply : Reply) → IsReadableReply reply → variant_of (reply_text reply) ≡ variant reply
@@ -134,6 +135,7 @@ variant_of-text (replies.Unset name) p = refl
 variant_of-text replies.NoBytes p = refl
 variant_of-text (replies.Position asked n) p = refl
 variant_of-text (replies.Length asked) p = refl
+variant_of-text (replies.Empty cell) p = refl
 
 same-variant : (x y : Reply) → IsReadableReply x → IsReadableReply y → reply_text x ≡ reply_text y → variant x ≡ variant y
 same-variant x y p q e = sym (variant_of-text x p) ∙ (ap variant_of e ∙ variant_of-text y q)
@@ -177,71 +179,5 @@ reply_injective (replies.Unset a) (replies.Unset b) p q e = ap (λ name. replies
 reply_injective replies.NoBytes replies.NoBytes p q e = refl
 reply_injective (replies.Position i m) (replies.Position j n) p q e = positions i j m n p.0 q.0 p.1 q.1 e
 reply_injective (replies.Length m) (replies.Length n) p q e = ap (λ k. replies.Length k) (decimal_injective m n p q (append_cancel_left (codes "! length ") (decimal m) (decimal n) e))
+reply_injective (replies.Empty m) (replies.Empty n) p q e = ap (λ k. replies.Empty k) (decimal_injective m n p q (append_cancel_left (codes "! empty ") (decimal m) (decimal n) e))
 reply_injective x y p q e = absurd (not-same (variant x) (variant y) (same-variant x y p q e) refl)
-
--- no newline is in an answer
-number-in-line : (n : ℕ) → IsNumber n → all_pass in_line (decimal n) ≡ true
-number-in-line n small = decimal-passes in_line (λ d below. grind (arith, nat_tests)) n small
-
-name-in-line : (name : List ℕ) → AllByRecursion IsInLine name → all_pass in_line name ≡ true
-name-in-line [] p = refl
-name-in-line (b ∷ name) p = both-pass (in_line b) (all_pass in_line name) (byte-in-line b p.0) (name-in-line name p.1)
-  where
-    byte-in-line : (b : ℕ) → IsInLine b → in_line b ≡ true
-    byte-in-line b other = grind (arith, nat_tests)
-
-gone-in-line : (gone : Option ℕ) → IfSome gone IsNumber → all_pass in_line (gone_text gone) ≡ true
-gone-in-line None g = refl
-gone-in-line (Some n) g = all_pass-append in_line (decimal n) (codes " gone") (number-in-line n g) refl
-
-mark-in-line : (new : NewMark) → IsReadableMark new → all_pass in_line (mark_text new) ≡ true
-mark-in-line Plain p = refl
-mark-in-line (Noted stamp update n) p =
-    let text : mark_text (Noted stamp update n) ≡ 32 ∷ 126 ∷ (decimal stamp ++ 46 ∷ (decimal update ++ 32 ∷ decimal n)) = simp append_assoc in
-    ap (all_pass in_line) text ∙ all_pass-append in_line (decimal stamp) (46 ∷ (decimal update ++ 32 ∷ decimal n)) (number-in-line stamp p.0)
-    (all_pass-append in_line (decimal update) (32 ∷ decimal n) (number-in-line update p.1) (number-in-line n p.2))
-mark-in-line Full p = refl
-
-more-in-line : (first : Bool) (n : ℕ) → IsNumber n → all_pass in_line (if first then [] else codes " +" ++ decimal n) ≡ true
-more-in-line true n small = refl
-more-in-line false n small = number-in-line n small
-
-pub reply-in-line : (reply : Reply) → IsReadableReply reply → all_pass in_line (reply_text reply) ≡ true
-reply-in-line (replies.Done new gone) p = all_pass-append in_line (mark_text new) (gone_text gone) (mark-in-line new p.0) (gone-in-line gone p.1)
-reply-in-line (replies.Number n) p = number-in-line n p
-reply-in-line (replies.Sum n) p = number-in-line n p
-reply-in-line replies.None p = refl
-reply-in-line (replies.Shown text more) p =
-    ap (all_pass in_line) (shown-text text more) ∙ all_pass-append in_line (quoted_bytes text) (34 ∷ more_text more) (quoted-in-line text (recursion_from_All IsByte text p.0)) (more-in-line (more == 0) more p.1)
-reply-in-line replies.Less p = refl
-reply-in-line replies.Equal p = refl
-reply-in-line replies.Greater p = refl
-reply-in-line replies.Yes p = refl
-reply-in-line replies.No p = refl
-reply-in-line (replies.Unset name) p = name-in-line name (recursion_from_All IsInLine name p)
-reply-in-line replies.NoBytes p = refl
-reply-in-line (replies.Position asked n) p = ap (all_pass in_line) (position-text asked n) ∙ all_pass-append in_line (decimal asked) (32 ∷ decimal n) (number-in-line asked p.0) (number-in-line n p.1)
-reply-in-line (replies.Length asked) p = number-in-line asked p
-
--- at the end of the text or before a session's line
-abbrev pub at_end : List ℕ → Bool
-at_end text = get_or text 0 115 == 115 && get_or text 1 101 == 101
-
-digit-no-end : (b c : ℕ) → is_digit b ≡ true → (b == 115 && c == 101) ≡ false
-digit-no-end b c digit = grind (arith, nat_tests)
-
-pub reply-no-end : (reply : Reply) (rest : List ℕ) → IsReadableReply reply → at_end (reply_text reply ++ rest) ≡ false
-reply-no-end (replies.Done new lost) rest p = refl
-reply-no-end (replies.Number n) rest p = digit-no-end (get_or (decimal n ++ rest) 0 115) (get_or (decimal n ++ rest) 1 101) (decimal-first n rest 115 p)
-reply-no-end (replies.Sum n) rest p = refl
-reply-no-end replies.None rest p = refl
-reply-no-end (replies.Shown text more) rest p = refl
-reply-no-end replies.Less rest p = refl
-reply-no-end replies.Equal rest p = refl
-reply-no-end replies.Greater rest p = refl
-reply-no-end replies.Yes rest p = refl
-reply-no-end replies.No rest p = refl
-reply-no-end (replies.Unset name) rest p = refl
-reply-no-end replies.NoBytes rest p = refl
-reply-no-end (replies.Position asked n) rest p = refl
-reply-no-end (replies.Length asked) rest p = refl

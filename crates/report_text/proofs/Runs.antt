@@ -1,6 +1,8 @@
 -- Runs of bytes that pass a test, up to one that doesn't: a text that begins with one splits in one way.
-use Rattle.std.proofs.Common.{◌≡◌, ◌∙◌, sym, ap, ap₂, refl, ℕ, ◌+◌, ◌%◌, ◌<◌, ◌^◌, Bool, true, false, if◌then◌else◌, List, [], ◌∷◌, ◌++◌, length, get_or, arith, nat_le, ◌&&◌, decimal}
-use Rattle.std.proofs.lemmas.Fmt.{decimal_by_steps, decimal_nonempty, decimal_injective}
+use Rattle.std.proofs.Common.{◌≡◌, ◌∙◌, sym, ap, ap₂, subst, refl, ℕ, zero, suc, ◌+◌, ◌/◌, ◌%◌, ◌<◌, ◌^◌, Bool, true, false, if◌then◌else◌, List, [], ◌∷◌, ◌++◌, length, get_or, arith, nat_le, nat_lt, ◌==◌, ◌&&◌, decimal, ltb-false}
+use Rattle.std.specs.Fmt.{digits, digits_onto, digit_glyph}
+use Rattle.std.proofs.lemmas.Fmt.{decimal_injective}
+use Rattle.std.proofs.lemmas.Bool.{cond_both}
 use Rattle.std.proofs.lemmas.Bool.Decides.{nat_tests}
 
 abbrev pub all_pass : (ℕ → Bool) → List ℕ → Bool
@@ -60,26 +62,44 @@ run-begins test (x ∷ xs) rest others long px e so = first-stops (test x) (firs
 abbrev pub is_digit : ℕ → Bool
 is_digit b = nat_le 48 b && nat_le b 57
 
-pub decimal-passes : (test : ℕ → Bool) → ((d : ℕ) → d < 10 → test (48 + d) ≡ true) → (n : ℕ) → n < 2 ^ 64 → all_pass test (decimal n) ≡ true
-decimal-passes test digits n small =
-    decimal_by_steps (λ n ds. all_pass test ds ≡ true)
-    (λ n below. both-pass (test (48 + n)) true (digits n below) refl)
-    (λ n ds above h. all_pass-append test ds ((48 + n % 10) ∷ []) h (both-pass (test (48 + n % 10)) true (digits (n % 10) (omega arith)) refl))
-    n small
+digits-are : (n : ℕ) → digits_onto 64 10 false n [] ≡ decimal n
+unfolding digits
+digits-are n = refl
+
+module _ (test : ℕ → Bool) (passes : (d : ℕ) → d < 10 → test (48 + d) ≡ true) where
+  glyph-passes : (d : ℕ) → d < 10 → test (digit_glyph false d) ≡ true
+  glyph-passes d below = cond_both (nat_lt d 10) (48 + d) (87 + d) (λ x. test x ≡ true) (λ yes. passes d below) (λ no. absurd (omega (arith, ltb-false d 10 no)))
+
+  onto-passes : (k n : ℕ) (ds : List ℕ) → all_pass test ds ≡ true → all_pass test (digits_onto k 10 false n ds) ≡ true
+  onto-passes zero n ds h = h
+  onto-passes (suc k) n ds h =
+      let more : all_pass test (digit_glyph false (n % 10) ∷ ds) ≡ true = both-pass (test (digit_glyph false (n % 10))) (all_pass test ds) (glyph-passes (n % 10) (omega arith)) h in
+      cond_both (n / 10 == 0) (digit_glyph false (n % 10) ∷ ds) (digits_onto k 10 false (n / 10) (digit_glyph false (n % 10) ∷ ds)) (λ ds. all_pass test ds ≡ true) (λ _. more) (λ _. onto-passes k (n / 10) (digit_glyph false (n % 10) ∷ ds) more)
+
+  -- also of a number of more than 64 digits, of which those are cut off
+  pub decimal-passes : (n : ℕ) → all_pass test (decimal n) ≡ true
+  decimal-passes n = subst (λ (ds : List ℕ). all_pass test ds ≡ true) (digits-are n) (onto-passes 64 n [] refl)
+
+onto-long : (k n : ℕ) (ds : List ℕ) → 0 < k + length ds → 0 < length (digits_onto k 10 false n ds)
+onto-long zero n ds h = omega arith
+onto-long (suc k) n ds h = cond_both (n / 10 == 0) (digit_glyph false (n % 10) ∷ ds) (digits_onto k 10 false (n / 10) (digit_glyph false (n % 10) ∷ ds)) (λ ds. 0 < length ds) (λ _. omega arith) (λ _. onto-long k (n / 10) (digit_glyph false (n % 10) ∷ ds) (omega arith))
+
+decimal-long : (n : ℕ) → 0 < length (decimal n)
+decimal-long n = subst (λ (ds : List ℕ). 0 < length ds) (digits-are n) (onto-long 64 n [] (omega arith))
 
 digit-is_digit : (d : ℕ) → d < 10 → is_digit (48 + d) ≡ true
 digit-is_digit d below = grind (arith, nat_tests)
 
-digits-pass : (n : ℕ) → n < 2 ^ 64 → all_pass is_digit (decimal n) ≡ true
-digits-pass n small = decimal-passes is_digit digit-is_digit n small
+digits-pass : (n : ℕ) → all_pass is_digit (decimal n) ≡ true
+digits-pass n = decimal-passes is_digit digit-is_digit n
 
 pub decimal_split : (m n : ℕ) (rest others : List ℕ) → m < 2 ^ 64 → n < 2 ^ 64 → stops is_digit rest ≡ true → stops is_digit others ≡ true → decimal m ++ rest ≡ decimal n ++ others → (m ≡ n) × (rest ≡ others)
 decimal_split m n rest others first second sr so e =
-    let split = run_split is_digit (decimal m) (decimal n) rest others (digits-pass m first) (digits-pass n second) sr so e in
+    let split = run_split is_digit (decimal m) (decimal n) rest others (digits-pass m) (digits-pass n) sr so e in
     (decimal_injective m n first second split.0, split.1)
 
-pub decimal-begins : (n : ℕ) (rest others : List ℕ) → n < 2 ^ 64 → decimal n ++ rest ≡ others → stops is_digit others ≡ true → ⊥
-decimal-begins n rest others small = run-begins is_digit (decimal n) rest others (decimal_nonempty n small) (digits-pass n small)
+pub decimal-begins : (n : ℕ) (rest others : List ℕ) → decimal n ++ rest ≡ others → stops is_digit others ≡ true → ⊥
+decimal-begins n rest others = run-begins is_digit (decimal n) rest others (decimal-long n) (digits-pass n)
 
-pub decimal-first : (n : ℕ) (rest : List ℕ) (d : ℕ) → n < 2 ^ 64 → is_digit (get_or (decimal n ++ rest) 0 d) ≡ true
-decimal-first n rest d small = run-first is_digit (decimal n) rest d (decimal_nonempty n small) (digits-pass n small)
+pub decimal-first : (n : ℕ) (rest : List ℕ) (d : ℕ) → is_digit (get_or (decimal n ++ rest) 0 d) ≡ true
+decimal-first n rest d = run-first is_digit (decimal n) rest d (decimal-long n) (digits-pass n)

@@ -1,5 +1,5 @@
--- The text of an answer, without its newline.
-use Rattle.std.specs.Prelude.{ℕ, ◌≤◌, List, [], ◌++◌, length, Option, Some, None, codes, ◌==◌, if◌then◌else◌}
+-- The text of an answer, and what makes a line of a text.
+use Rattle.std.specs.Prelude.{ℕ, ◌≤◌, List, [], ◌∷◌, ◌++◌, length, Option, Some, None, codes, ◌==◌, if◌then◌else◌}
 use Rattle.std.specs.Fmt.{decimal}
 use Rattle.plain_cord.specs.declared.limits.TheConstants.{MOST_SHOWN}
 use Rattle.plain_cord.specs.declared.reply.NewMark.{NewMark}
@@ -7,6 +7,10 @@ use Rattle.plain_cord.specs.declared.reply.NewMark.TheVariants.{Plain, Noted, Fu
 use Rattle.plain_cord.specs.declared.reply.Reply.{Reply}
 use Rattle.plain_cord.specs.declared.reply.Reply.TheVariants as replies
 use Rattle.report_text.specs.Quotes.{quoted}
+
+-- a text as a line
+abbrev pub line_of : List ℕ → List ℕ
+line_of text = text ++ 10 ∷ []
 
 abbrev pub mark_text : NewMark → List ℕ
 mark_text Plain = []
@@ -20,6 +24,7 @@ gone_text (Some stamp) = codes " ~" ++ decimal stamp ++ codes " gone"
 abbrev pub more_text : ℕ → List ℕ
 more_text n = if n == 0 then [] else codes " +" ++ decimal n
 
+-- an answer, without its newline
 abbrev pub reply_text : Reply → List ℕ
 reply_text (replies.Done new gone) = codes "ok" ++ mark_text new ++ gone_text gone
 reply_text (replies.Number n) = decimal n
@@ -35,6 +40,7 @@ reply_text (replies.Unset name) = codes "! unset " ++ name
 reply_text replies.NoBytes = codes "! no bytes"
 reply_text (replies.Position asked n) = codes "! position " ++ decimal asked ++ codes " " ++ decimal n
 reply_text (replies.Length asked) = codes "! length " ++ decimal asked
+reply_text (replies.Empty cell) = codes "! empty " ++ decimal cell
 
 -- what is shown and what is named is as short as a session's answers are
 abbrev pub IsShortReply : Reply → Type 0

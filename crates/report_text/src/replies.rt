@@ -99,5 +99,6 @@ pub fn push_reply(line: &mut Line, reply: &Reply)
             push_named_number(line, b" ", *size);
         }
         Reply::Length { asked } => push_named_number(line, b"! length ", *asked),
+        Reply::Empty { cell } => push_named_number(line, b"! empty ", *cell as u64),
     }
 }

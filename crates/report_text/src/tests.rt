@@ -2,10 +2,11 @@
 ghost use Rattle.std.specs.Prelude.{◌≡◌, ◌≤◌, length, IfOk, OnOk};
 ghost use Rattle.std.specs.List.{All};
 ghost use Rattle.report_text.specs.Replies.{IsShortReply};
+ghost use Rattle.report_text.specs.Outputs.{IsProperEntry};
 
 use super::*;
 use cord_port::MemorySink;
-use plain_cord::{Book, Items, NewMark, Reply, Script, Session};
+use plain_cord::{Act, Book, Entry, Items, NewMark, Reply, Script, Session};
 use std::alloc::{AllocError, Global};
 use std::test::Fail;
 
@@ -42,16 +43,27 @@ fn session_of(alloc: Global, name: &[u8]) -> Result<Session, AllocError>
     })
 }
 
+/// Adds an action of one of two sessions.
+fn note(history: &mut Items<Entry>, entry: Entry) -> Result<(), AllocError>
+    requires proper { IsProperEntry 2 entry }
+    requires before { All (IsProperEntry 2) history.old }
+    ensures { OnOk result (All (IsProperEntry 2) history.new) }
+{
+    history.push(entry)
+}
+
 /// The sink after a run of the sessions `a` and `b1`, and whether all was written.
 fn sink_after(
     alloc: Global,
     first: Items<Reply>,
     second: Items<Reply>,
+    history: &[Entry],
     most: usize,
     fails: Vec<u32>,
 ) -> Result<(MemorySink, bool), Fail>
     requires first { All IsShortReply first }
     requires second { All IsShortReply second }
+    requires history { All (IsProperEntry 2) history.now }
 {
     let a = session_of(alloc, b"a")?;
     let b = session_of(alloc, b"b1")?;
@@ -66,7 +78,7 @@ fn sink_after(
     };
     let books = [Book { replies: first }, Book { replies: second }];
     let mut sink = MemorySink::new(alloc, 4096, most, fails)?;
-    let written = write_run(&script, books.as_slice(), &mut sink).is_ok();
+    let written = write_run(&script, books.as_slice(), history, 0, &mut sink).is_ok();
     Ok((sink, written))
 }
 
@@ -143,6 +155,7 @@ fn words_and_refusals(alloc: Global) -> Result<Items<Reply>, AllocError>
         },
     )?;
     add(&mut answers, Reply::Length { asked: 2147483648 })?;
+    add(&mut answers, Reply::Empty { cell: 63 })?;
     Ok(answers)
 }
 
@@ -150,10 +163,10 @@ fn words_and_refusals(alloc: Global) -> Result<Items<Reply>, AllocError>
 fn answers_have_their_texts(rt: HostRuntime) -> Result<(), Fail> {
     let first = marks_and_numbers(rt.alloc())?;
     let second = words_and_refusals(rt.alloc())?;
-    let (sink, written) = sink_after(rt.alloc(), first, second, 4096, Vec::new(rt.alloc()))?;
+    let (sink, written) = sink_after(rt.alloc(), first, second, &[], 4096, Vec::new(rt.alloc()))?;
     assert!(rt; written);
     let wanted =
-        b"session a\nok\nok ~2.0 20\nok ~2.0 20 ~1 gone\nok ~full\nok ~full ~18446744073709551615 gone\nok ~1 gone\n0\n18446744073709551615\nsum 4294967295\nnone\nsession b1\nless\nequal\ngreater\nyes\nno\n! unset x\n! no bytes\n! position 21 20\n! length 2147483648\n";
+        b"session a\nok\nok ~2.0 20\nok ~2.0 20 ~1 gone\nok ~full\nok ~full ~18446744073709551615 gone\nok ~1 gone\n0\n18446744073709551615\nsum 4294967295\nnone\nsession b1\nless\nequal\ngreater\nyes\nno\n! unset x\n! no bytes\n! position 21 20\n! length 2147483648\n! empty 63\nhistory 0\npool 0 of 1\n";
     assert_eq!(rt; sink.bytes(), wanted.as_slice());
     Ok(())
 }
@@ -170,10 +183,10 @@ fn shown_bytes_are_quoted_also_byte_by_byte(rt: HostRuntime) -> Result<(), Fail>
         18446744073709551615,
     )?;
     let second = Items::new(rt.alloc());
-    let (sink, written) = sink_after(rt.alloc(), first, second, 1, Vec::new(rt.alloc()))?;
+    let (sink, written) = sink_after(rt.alloc(), first, second, &[], 1, Vec::new(rt.alloc()))?;
     assert!(rt; written);
     let wanted =
-        b"session a\n\"\"\n\"a\\\"\\\\\\n\" +1\n\"\\x00\\x1f ~\\x7f\\xff\" +18446744073709551615\nsession b1\n";
+        b"session a\n\"\"\n\"a\\\"\\\\\\n\" +1\n\"\\x00\\x1f ~\\x7f\\xff\" +18446744073709551615\nsession b1\nhistory 0\npool 0 of 1\n";
     assert_eq!(rt; sink.bytes(), wanted.as_slice());
     Ok(())
 }
@@ -185,9 +198,144 @@ fn failing_sink_holds_the_lines_before(rt: HostRuntime) -> Result<(), Fail> {
     add(&mut first, Reply::No)?;
     let second = Items::new(rt.alloc());
     let fails = vec![in rt.alloc(); 3u32]?;
-    let (sink, written) = sink_after(rt.alloc(), first, second, 4096, fails)?;
+    let (sink, written) = sink_after(rt.alloc(), first, second, &[], 4096, fails)?;
     assert!(rt; !written);
     assert_eq!(rt; sink.bytes(), b"session a\nyes\n".as_slice());
+    Ok(())
+}
+
+/// What the first session did on the cells 3 and 4.
+fn first_actions(alloc: Global) -> Result<Items<Entry>, AllocError>
+    ensures { IfOk result (λ history. All (IsProperEntry 2) history) }
+{
+    let mut history = Items::new(alloc);
+    note(
+        &mut history,
+        Entry {
+            session: 0,
+            place: 1,
+            act: Act::Put,
+            cell: 3,
+            came: Some(1),
+            was: None,
+        },
+    )?;
+    note(
+        &mut history,
+        Entry {
+            session: 0,
+            place: 2,
+            act: Act::Peek,
+            cell: 3,
+            came: None,
+            was: Some(1),
+        },
+    )?;
+    note(
+        &mut history,
+        Entry {
+            session: 0,
+            place: 3,
+            act: Act::Swap,
+            cell: 3,
+            came: Some(2),
+            was: Some(1),
+        },
+    )?;
+    note(
+        &mut history,
+        Entry {
+            session: 0,
+            place: 4,
+            act: Act::Swap,
+            cell: 4,
+            came: None,
+            was: None,
+        },
+    )?;
+    Ok(history)
+}
+
+/// What the second session did on the cells 63, 0 and 7.
+fn second_actions(alloc: Global) -> Result<Items<Entry>, AllocError>
+    ensures { IfOk result (λ history. All (IsProperEntry 2) history) }
+{
+    let mut history = Items::new(alloc);
+    note(
+        &mut history,
+        Entry {
+            session: 1,
+            place: 1,
+            act: Act::Take,
+            cell: 63,
+            came: None,
+            was: Some(18446744073709551615),
+        },
+    )?;
+    note(
+        &mut history,
+        Entry {
+            session: 1,
+            place: 4294967295,
+            act: Act::Take,
+            cell: 0,
+            came: None,
+            was: None,
+        },
+    )?;
+    note(
+        &mut history,
+        Entry {
+            session: 1,
+            place: 10,
+            act: Act::Peek,
+            cell: 7,
+            came: None,
+            was: None,
+        },
+    )?;
+    Ok(history)
+}
+
+#[test]
+fn actions_have_their_lines(rt: HostRuntime) -> Result<(), Fail> {
+    let history = first_actions(rt.alloc())?;
+    let first = Items::new(rt.alloc());
+    let second = Items::new(rt.alloc());
+    let none = Vec::new(rt.alloc());
+    let (sink, written) = sink_after(rt.alloc(), first, second, history.as_slice(), 4096, none)?;
+    assert!(rt; written);
+    let wanted =
+        b"session a\nsession b1\nhistory 4\na 1 put 3 ok 1\na 2 peek 3 ok 1\na 3 swap 3 ok 2 1\na 4 swap 4 empty\npool 0 of 1\n";
+    assert_eq!(rt; sink.bytes(), wanted.as_slice());
+    Ok(())
+}
+
+#[test]
+fn actions_of_other_sessions_have_their_names(rt: HostRuntime) -> Result<(), Fail> {
+    let history = second_actions(rt.alloc())?;
+    let first = Items::new(rt.alloc());
+    let second = Items::new(rt.alloc());
+    let none = Vec::new(rt.alloc());
+    let (sink, written) = sink_after(rt.alloc(), first, second, history.as_slice(), 1, none)?;
+    assert!(rt; written);
+    let wanted =
+        b"session a\nsession b1\nhistory 3\nb1 1 take 63 ok 18446744073709551615\nb1 4294967295 take 0 empty\nb1 10 peek 7 empty\npool 0 of 1\n";
+    assert_eq!(rt; sink.bytes(), wanted.as_slice());
+    Ok(())
+}
+
+#[test]
+fn script_of_no_sessions_has_an_empty_history(rt: HostRuntime) -> Result<(), Fail> {
+    let script = Script {
+        pool: 65536,
+        passes: 16384,
+        stride: 0,
+        sessions: Items::new(rt.alloc()),
+    };
+    let mut sink = MemorySink::new(rt.alloc(), 99, 99, Vec::new(rt.alloc()))?;
+    assert!(rt; write_run(&script, &[], &[], 0, &mut sink).is_ok());
+    assert_eq!(rt; sink.bytes(), b"history 0\npool 0 of 65536\n".as_slice());
     Ok(())
 }
 

@@ -1,17 +1,19 @@
-//! The books of a run, to a sink.
+//! A run, to a sink: its books, its history and its pool.
 ghost use Rattle.std.specs.Prelude.{◌≡◌, ◌≤◌, ◌<◌, ◌∷◌, [], length, OnOk, OnErr};
 ghost use Rattle.std.specs.List.{All};
 ghost use Rattle.std.specs.Io.KnownBytes.{Appends};
 ghost use Rattle.cord_port.specs.Causes.{Rose};
 ghost use Rattle.cord_port.specs.Texts.{AppendsPart};
-ghost use Rattle.report_text.specs.Replies.{IsShortReply};
-ghost use Rattle.report_text.specs.Outputs.{line_of, session_line, reply_line, reply_lines, session_text, output_text, IsPrintable};
+ghost use Rattle.report_text.specs.Replies.{line_of, IsShortReply};
+ghost use Rattle.report_text.specs.Outputs.{session_line, reply_line, reply_lines, session_text, books_text, output_text, IsPrintable};
 ghost use Rattle.report_text.specs.Lines.{line_bytes, line_length};
 
+use crate::history::write_history;
 use crate::line::{LINE, Line};
+use crate::pool::write_pool;
 use crate::replies::push_reply;
 use cord_port::{Failed, Sink, write_all};
-use plain_cord::{Book, Reply, Script, Session};
+use plain_cord::{Book, Entry, Reply, Script, Session};
 
 /// Ends the line and hands it to the sink.
 pub fn write_line<K: Sink>(line: &mut Line, sink: &mut K) -> Result<(), Failed>
@@ -91,10 +93,12 @@ fn write_sessions<K: Sink>(
     books: &[Book],
     sink: &mut K,
 ) -> Result<(), Failed>
-    requires { IsPrintable sessions.now books.now }
-    ensures whole { OnOk result (Appends (K.held sink.old) (K.held sink.new) (output_text sessions.now books.now)) }
+    requires paired { length books.now ≡ length sessions.now }
+    requires names { All (λ session. length session.name ≤ 16) sessions.now }
+    requires replies { All (λ book. All IsShortReply book.replies) books.now }
+    ensures whole { OnOk result (Appends (K.held sink.old) (K.held sink.new) (books_text sessions.now books.now)) }
     ensures kept { OnOk result (K.faults sink.new ≡ K.faults sink.old) }
-    ensures part { AppendsPart (K.held sink.old) (K.held sink.new) (output_text sessions.now books.now) }
+    ensures part { AppendsPart (K.held sink.old) (K.held sink.new) (books_text sessions.now books.now) }
     ensures cause { OnErr result (Rose (K.faults sink.old) (K.faults sink.new)) }
     ensures later { K.faults sink.old ≤ K.faults sink.new }
 {
@@ -104,16 +108,25 @@ fn write_sessions<K: Sink>(
     Ok(())
 }
 
-/// Writes a run: for each session the line of its name and those of its answers. The sink is handed a line at a
-/// time. After a failure it got a beginning of the text.
-pub fn write_run<K: Sink>(script: &Script, books: &[Book], sink: &mut K) -> Result<(), Failed>
-    requires { IsPrintable script.now.sessions books.now }
-    ensures whole { OnOk result (Appends (K.held sink.old) (K.held sink.new) (output_text script.now.sessions books.now)) }
+/// Writes a run: for each session the line of its name and those of its answers, then the history, and how many of
+/// the pool's numbers are left in use. The sink is handed a line at a time. After a failure it got a beginning of the text.
+pub fn write_run<K: Sink>(
+    script: &Script,
+    books: &[Book],
+    history: &[Entry],
+    left: u32,
+    sink: &mut K,
+) -> Result<(), Failed>
+    requires { IsPrintable script.now.sessions books.now history.now }
+    ensures whole { OnOk result (Appends (K.held sink.old) (K.held sink.new) (output_text script.now.sessions books.now history.now left script.now.pool)) }
     ensures kept { OnOk result (K.faults sink.new ≡ K.faults sink.old) }
-    ensures part { AppendsPart (K.held sink.old) (K.held sink.new) (output_text script.now.sessions books.now) }
+    ensures part { AppendsPart (K.held sink.old) (K.held sink.new) (output_text script.now.sessions books.now history.now left script.now.pool) }
     ensures cause { OnErr result (Rose (K.faults sink.old) (K.faults sink.new)) }
     ensures later { K.faults sink.old ≤ K.faults sink.new }
 {
+    let sessions = script.sessions.as_slice();
     let mut line = Line::new();
-    write_sessions(&mut line, script.sessions.as_slice(), books, sink)
+    write_sessions(&mut line, sessions, books, sink)?;
+    write_history(&mut line, sessions, history, sink)?;
+    write_pool(&mut line, left, script.pool, sink)
 }

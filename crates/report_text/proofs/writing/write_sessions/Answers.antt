@@ -5,7 +5,7 @@ use Rattle.std.specs.Io.KnownBytes.{Appends}
 use Rattle.cord_port.proofs.Appending.{appends_more, part_more, whole_part}
 use Rattle.plain_cord.specs.declared.script.Session.{Session}
 use Rattle.plain_cord.specs.declared.reply.Book.{Book}
-use Rattle.report_text.specs.Outputs.{session_text, output_text}
+use Rattle.report_text.specs.Outputs.{session_text, books_text}
 use Rattle.report_text.proofs.Parts.{flat_map-parts, flat_map-more, zip-at, zip-long, take-zip-all}
 use Rattle.report_text.proofs.writing.write_sessions.Goals as goal
 
@@ -17,7 +17,7 @@ returns-in_err-write_session-clause-part g c =
     let part : Session × Book = (c.index-sessions-i.result, c.index-books-i.result) in
     let within : i < length sessions = omega arith in
     let one = zip-at sessions books i part.0 part.1 within c.loop-i-test.true c.index-sessions-i.is c.index-books-i.is in
-    part_more _ (g.K.Sink.held c.loop-i.sink) _ (flat_map session_text (take i (zip sessions books))) (session_text part) (flat_map session_text (drop (suc i) (zip sessions books))) (output_text sessions books)
+    part_more _ (g.K.Sink.held c.loop-i.sink) _ (flat_map session_text (take i (zip sessions books))) (session_text part) (flat_map session_text (drop (suc i) (zip sessions books))) (books_text sessions books)
     (flat_map-parts session_text (zip sessions books) i part (zip-long sessions books i within c.loop-i-test.true) ∙ ap (λ p. flat_map session_text (take i (zip sessions books)) ++ (session_text p ++ flat_map session_text (drop (suc i) (zip sessions books)))) one)
     c.loop-i.invariant.held c.write_session.ensures.part
 
@@ -41,4 +41,4 @@ returns-clause-whole g c =
     subst (λ (parts : List (Session × Book)). Appends (g.K.Sink.held c.args.sink.now) (g.K.Sink.held c.loop-i.sink) (flat_map session_text parts)) (take-zip-all c.args.sessions.now c.args.books.now c.loop-i.i c.loop-i-test.false) c.loop-i.invariant.held
 
 pub returns-clause-part : goal.returns-clause-part
-returns-clause-part g c = whole_part _ _ (output_text c.args.sessions.now c.args.books.now) (returns-clause-whole g c)
+returns-clause-part g c = whole_part _ _ (books_text c.args.sessions.now c.args.books.now) (returns-clause-whole g c)
