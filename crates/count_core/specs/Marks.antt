@@ -1,15 +1,13 @@
 -- Changes in place along a path: what one change does to a node and the direct holds beside its tree, where it fits, and a list of them.
 use Rattle.std.specs.Prelude.{◌≡◌, ℕ, zero, suc, ◌+◌, ◌-◌, ◌^◌, ◌<◌, ◌≤◌, List, [], ◌∷◌, ◌++◌, length, take, drop, slice_index_or, slice_set, Option, Some, None, IsSome, option_to_list}
 use Rattle.node_forest.specs.declared.kind.Kind.TheVariants.{Flat, Branch}
+use Rattle.node_forest.specs.declared.side.Side.{Side}
+use Rattle.node_forest.specs.declared.side.Side.TheVariants.{Front, Back}
 use Rattle.node_forest.specs.Forest.{forest, children}
 use Rattle.node_forest.specs.Label.{Label, Node, number}
 use Rattle.node_forest.specs.Counts.{first}
+use Rattle.node_forest.specs.Sides.{outgoing, remaining, joined}
 use Rattle.count_core.specs.Views.{without}
-
--- the first edges of a branch, or its last
-pub data Side : Type 0 where
-  front : Side
-  back : Side
 
 -- a flat gets a length, bytes and room; or so many edges at a side of a branch become direct holds, and then direct holds with these numbers
 -- become its edges there
@@ -40,30 +38,18 @@ abbrev pub CanPull : List ℕ → List Node → Type 0
 CanPull [] hs = Unit {0}
 CanPull (m ∷ ms) hs = IsSome (first m hs) × CanPull ms (without m hs)
 
--- ---- the edges of a branch
-abbrev pub outgoing : Side → ℕ → List Node → List Node
-outgoing front count kids = take count kids
-outgoing back count kids = drop (length kids - count) kids
-
-abbrev pub remaining : Side → ℕ → List Node → List Node
-remaining front count kids = drop count kids
-remaining back count kids = take (length kids - count) kids
-
-abbrev pub joined : Side → List Node → List Node → List Node
-joined front new kids = new ++ kids
-joined back new kids = kids ++ new
-
+-- ---- the path past a branch whose edges change
 -- the path's child isn't among the edges that go
 abbrev pub KeepsChild : Side → ℕ → ℕ → List ℕ → Type 0
 KeepsChild side count edges [] = Unit {0}
-KeepsChild front count edges (p ∷ ps) = (count ≤ p) × (p < edges)
-KeepsChild back count edges (p ∷ ps) = p < edges - count
+KeepsChild Front count edges (p ∷ ps) = (count ≤ p) × (p < edges)
+KeepsChild Back count edges (p ∷ ps) = p < edges - count
 
 -- the path, whose child may have another place now
 abbrev pub path_after : Side → ℕ → ℕ → List ℕ → List ℕ
 path_after side count new [] = []
-path_after front count new (p ∷ ps) = (p - count + new) ∷ ps
-path_after back count new (p ∷ ps) = p ∷ ps
+path_after Front count new (p ∷ ps) = (p - count + new) ∷ ps
+path_after Back count new (p ∷ ps) = p ∷ ps
 
 abbrev pub total : List Node → ℕ
 total [] = 0

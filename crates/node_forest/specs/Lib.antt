@@ -4,3 +4,4 @@ pub mod Label
 pub mod Members
 pub mod Counts
 pub mod Codes
+pub mod Sides
