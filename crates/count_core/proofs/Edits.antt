@@ -15,7 +15,8 @@ use Rattle.node_forest.proofs.Members.{in_left, in_right, in_split, root_occurs,
 use Rattle.node_forest.proofs.Counts.{times_append, is_one, is_none, first_hit, first_miss}
 use Rattle.count_core.specs.Sound.{Sound, Parts}
 use Rattle.count_core.specs.Views.{without}
-use Rattle.count_core.specs.Marks.{Change, resize, exchange, Site, pulled, unpulled, CanPull, edges_after, edit, raised, child_of, FitsAt, FitEach, LonePath, edits}
+use Rattle.node_forest.specs.Paths.{child_of}
+use Rattle.count_core.specs.Marks.{Change, resize, exchange, Site, pulled, unpulled, CanPull, edges_after, edit, raised, FitsAt, FitEach, LonePath, edits}
 use Rattle.count_core.proofs.Counting.{stays, unheld}
 use Rattle.count_core.proofs.Marks.{less, less_is, opens, closes}
 use Rattle.count_core.proofs.Lists.{default_same}

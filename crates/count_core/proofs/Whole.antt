@@ -6,7 +6,8 @@ use Rattle.node_forest.specs.Forest.{children}
 use Rattle.node_forest.specs.Label.{Node, number}
 use Rattle.node_forest.specs.Counts.{first}
 use Rattle.node_forest.proofs.Maps.{trees-forest}
-use Rattle.count_core.specs.Marks.{Change, resize, exchange, Site, site, pulled, unpulled, CanPull, edges_after, edit, raised, child_of, FitsAt, FitEach, LonePath, FitsRoot, edits, edited_holds, all_but, beside, loose, numbers_on}
+use Rattle.node_forest.specs.Paths.{child_of}
+use Rattle.count_core.specs.Marks.{Change, resize, exchange, Site, site, pulled, unpulled, CanPull, edges_after, edit, raised, FitsAt, FitEach, LonePath, FitsRoot, edits, edited_holds, all_but, beside, loose, numbers_on}
 use Rattle.count_core.specs.Steps.{State, mark, after, holds_at, word_at, CanStep}
 use Rattle.count_core.specs.MarkLaws.{MovesWholeTrees}
 use Rattle.count_core.specs.Views.{without}

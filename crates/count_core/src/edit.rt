@@ -1,8 +1,9 @@
 //! Changes in place on a copy of a tree and of the direct holds beside it.
 ghost use Rattle.std.specs.Prelude.{◌≡◌, ℕ, ◌+◌, ◌-◌, ◌^◌, ◌<◌, ◌≤◌, ◌↔◌, List, [], ◌∷◌, ◌++◌, length, slice_index, slice_set, IsTrue, IfOk, IfSome, OnOk, OnErr, MatchOption};
 ghost use Rattle.node_forest.specs.Label.{Node};
-ghost use Rattle.node_forest.specs.Sides.{outgoing, remaining, joined};
-ghost use Rattle.count_core.specs.Marks.{exchange, resized, FitsFlat, edited, edit, edits, holds_of, total, Fits, FitsBranch, FitsAt, FitEach, AreShort, NeverDeeper, LonePath, KeepsChild, path_after, child_of, site};
+ghost use Rattle.node_forest.specs.Sides.{outgoing, remaining, joined, KeepsChild, path_after};
+ghost use Rattle.node_forest.specs.Paths.{AreShort, NeverDeeper, child_of};
+ghost use Rattle.count_core.specs.Marks.{exchange, resized, FitsFlat, edited, edit, edits, holds_of, total, Fits, FitsBranch, FitsAt, FitEach, LonePath, site};
 ghost use Rattle.count_core.specs.Terms.{change_of, changes_of};
 
 use crate::change::TreeChange;

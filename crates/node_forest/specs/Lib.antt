@@ -5,3 +5,4 @@ pub mod Members
 pub mod Counts
 pub mod Codes
 pub mod Sides
+pub mod Paths

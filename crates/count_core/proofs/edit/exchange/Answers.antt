@@ -2,8 +2,8 @@
 use Rattle.std.proofs.Common.{◌≡◌, ◌∙◌, ◌++◌, ap, arith, sym, refl, subst, length, List, ℕ}
 use Rattle.node_forest.specs.Forest.{children, forest}
 use Rattle.node_forest.specs.Label.{Node}
-use Rattle.count_core.specs.Marks.{CanPull, KeepsChild, edges_after, pulled, unpulled, total, path_after}
-use Rattle.node_forest.specs.Sides.{joined, remaining, outgoing}
+use Rattle.count_core.specs.Marks.{CanPull, edges_after, pulled, unpulled, total}
+use Rattle.node_forest.specs.Sides.{joined, remaining, outgoing, KeepsChild, path_after}
 use Rattle.count_core.proofs.TreeNodes.{children_of}
 use Rattle.count_core.proofs.edit.exchange.Goals as goal
 use Rattle.count_core.proofs.edit.exchange.Goals.{then-not-is_branch-via-then-not-is_branch, then-not-is_branch-via-else-not-is_branch+then-count-edges, then-not-is_branch-via-else-not-is_branch+else-count-edges+then-not-keeps_child, then-many-lt1-via-then-many-lt1, then-many-lt1-via-else-many-lt1+then-many-gt6}
