@@ -3,3 +3,6 @@ pub mod EdgeLaws
 pub mod TreeLaws
 pub mod TextLaws
 pub mod BodyLaws
+pub mod ExchangeLaws
+pub mod EditLaws
+pub mod LevelLaws

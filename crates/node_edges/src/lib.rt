@@ -3,15 +3,23 @@
 #![tactic(auto)]
 
 mod bytes;
+mod change;
 mod edge;
+mod edit;
+#[cfg(test)]
+mod edit_tests;
+mod exchange;
+mod filling;
 mod laws;
 mod memory;
 #[cfg(test)]
 mod tests;
 
+pub use change::Change;
 pub use edge::{Body, Edge};
 pub use laws::{
     branches_join_their_texts, branches_over_trees_are_trees, shapes_follow_edges,
     texts_are_as_long_as_edges_say,
 };
 pub use memory::Memory;
+pub use node_forest::Side;
