@@ -61,7 +61,7 @@ module _ {S : Type 0} (k : ℕ) where
       go : (b : Bool) → nat_lt n me.0.limit ≡ b
           → (w : View) × (a : Rattle.atomic_table.specs.Table.Act S) × Rattle.atomic_table.specs.Table.Valid s.homes me.1 a × Ruled k (stepped s k ((n + 1) % 2 ^ 64) id me.1 w a) × Told (counting n me.0) me (w, Rattle.atomic_table.specs.Table.carried_after me.1 a)
       go true e =
-          let w : View = counting_below me.0 in
+          let w : View = counting_below n me.0 in
           let one = mine.roomy in
           let lim = mine.limited in
           let below = ltb-true n me.0.limit e in
@@ -69,17 +69,17 @@ module _ {S : Type 0} (k : ℕ) where
           let sane : IsSane k w = record { size = mine.size; roomy = omega arith; narrow = mine.narrow; limited = mine.limited; fewer = mine.fewer } in
           let ruled : Ruled k (stepped s k (n + 1) id me.1 w keeps) =
           live_ruled k s id me.0 r at (counted id) (n + 1) w me.1 ((core_steps k s id me.0 r at me.1).counted w refl (omega arith)) sane refl refl (omega arith) (omega arith) refl (λ o q. omega arith) in
-          let is : w ≡ counting n me.0 = ap (λ (b : Bool). if b then counting_below me.0 else counting_over me.0) (sym e) in
+          let is : w ≡ counting n me.0 = ap (λ (b : Bool). if b then counting_below n me.0 else counting_over n me.0) (sym e) in
           (w, keeps, tt, subst (λ (z : ℕ). Ruled k (stepped s k z id me.1 w keeps)) (sym up) ruled, subst (λ (z : View). Told z me (w, me.1)) is (told k s id me (w, me.1) w r at refl refl sane))
       go false e =
-          let w : View = counting_over me.0 in
+          let w : View = counting_over n me.0 in
           let one = mine.roomy in
           let low = r.low in
           let few = live_low k s id me.0 r at in
           let sane : IsSane k w = record { size = mine.size; roomy = omega arith; narrow = mine.narrow; limited = mine.limited; fewer = omega arith } in
           let ruled : Ruled k (stepped s k (n + 1) id me.1 w keeps) =
           live_ruled k s id me.0 r at (counted id) (n + 1) w me.1 ((core_steps k s id me.0 r at me.1).counted w refl (omega arith)) sane refl refl (omega arith) (omega arith) refl (λ o q. omega arith) in
-          let is : w ≡ counting n me.0 = ap (λ (b : Bool). if b then counting_below me.0 else counting_over me.0) (sym e) in
+          let is : w ≡ counting n me.0 = ap (λ (b : Bool). if b then counting_below n me.0 else counting_over n me.0) (sym e) in
           (w, keeps, tt, subst (λ (z : ℕ). Ruled k (stepped s k z id me.1 w keeps)) (sym up) ruled, subst (λ (z : View). Told z me (w, me.1)) is (told k s id me (w, me.1) w r at refl refl sane))
 
   -- a pass ends
@@ -131,7 +131,7 @@ parts_allowed k id v own room s r at =
     let sa = spares_set s.views id v (parting v) at in
     let sb = spares-append (set s.views id (parting v)) (empty_pass v) in
     let sd = r.spares in
-    let does = split_does k id v s 0 at in
+    let does = split_does k id v s 0 0 at in
     record {
       width = r.width;
       sound = subst IsSound (sym (same ∙ does.1)) (step_sound (split id []) (world k s) r.sound does.0);
@@ -150,11 +150,11 @@ parts_allowed k id v own room s r at =
     later : (n : ℕ) → IsTaken n s.views → IsTaken n (set s.views id (parting v) ++ empty_pass v ∷ [])
     later n t = taken_longer (set s.views id (parting v)) (empty_pass v ∷ []) n (taken_set s.views id v (parting v) at n (λ x. x) t)
 
-    views : map holds_of (set s.views id (parting v) ++ empty_pass v ∷ []) ≡ map holds_of (set s.views id (narrower 0 v) ++ part_of 0 v ∷ [])
+    views : map holds_of (set s.views id (parting v) ++ empty_pass v ∷ []) ≡ map holds_of (set s.views id (narrower 0 0 v) ++ part_of 0 0 v ∷ [])
     views =
         map-append holds_of (set s.views id (parting v)) (empty_pass v ∷ [])
-        ∙ ap (λ (z : List (List Node)). z ++ [] ∷ []) (map-set holds_of s.views id (parting v) ∙ sym (map-set holds_of s.views id (narrower 0 v)))
-        ∙ sym (map-append holds_of (set s.views id (narrower 0 v)) (part_of 0 v ∷ []))
+        ∙ ap (λ (z : List (List Node)). z ++ [] ∷ []) (map-set holds_of s.views id (parting v) ∙ sym (map-set holds_of s.views id (narrower 0 0 v)))
+        ∙ sym (map-append holds_of (set s.views id (narrower 0 0 v)) (part_of 0 0 v ∷ []))
 
-    same : world k record { words = s.words; homes = s.homes; views = set s.views id (parting v) ++ empty_pass v ∷ [] } ≡ world k record { words = s.words; homes = s.homes; views = set s.views id (narrower 0 v) ++ part_of 0 v ∷ [] }
+    same : world k record { words = s.words; homes = s.homes; views = set s.views id (parting v) ++ empty_pass v ∷ [] } ≡ world k record { words = s.words; homes = s.homes; views = set s.views id (narrower 0 0 v) ++ part_of 0 0 v ∷ [] }
     same = ap (with_views (world k s)) views

@@ -1,4 +1,5 @@
 -- The definitions of this crate.
+pub mod Notes
 pub mod Views
 pub mod Rules
 pub mod Plays

@@ -1,10 +1,10 @@
 -- What each kind of step tells the token that makes it.
-use Rattle.std.specs.Prelude.{◌≡◌, ℕ, ◌<◌, List}
+use Rattle.std.specs.Prelude.{◌≡◌, ℕ, List}
 use Rattle.atomic_table.specs.Table.{Me}
 use Rattle.atomic_table.specs.Table as table
 use Rattle.node_forest.specs.Label.{Node, number}
 use Rattle.node_forest.specs.Members.{In}
-use Rattle.pool_rule.specs.Views.{View, tried, sharing, leaving}
+use Rattle.pool_rule.specs.Views.{View, tried, sharing, releasing, looking}
 use Rattle.pool_rule.specs.Rules.{IsSane}
 
 -- of holds with one number there is one node only
@@ -29,8 +29,8 @@ module _ {S : Type 0} where
 
   -- the hold goes, and where 1 is found the node's edges are direct holds
   abbrev pub left : Node → table.Step S → Me S View → ℕ → Me S View → Type 0
-  left t st m found m' = Told (leaving found t m.0) m m'
+  left t st m found m' = Told (releasing found t m.0) m m'
 
-  -- the view stays, and the number is one of the pool's
+  -- where 1 is found, the number is lone; else the look is noted
   abbrev pub looked : Node → table.Step S → Me S View → ℕ → Me S View → Type 0
-  looked t st m found m' = Told m.0 m m' × (number t < m.0.size)
+  looked t st m found m' = Told (looking found t m.0) m m'

@@ -9,7 +9,7 @@ ghost use Rattle.node_forest.specs.Label.{Node, number};
 ghost use Rattle.node_forest.specs.Members.{In, Occurs};
 ghost use Rattle.count_core.specs.Views.{AreHeld, without, without_all};
 ghost use Rattle.count_core.specs.Steps.{zeroes};
-ghost use Rattle.pool_rule.specs.Views.{View, blank, taking, counting, ending, undoing, narrower, part_of, parting, empty_pass, handing, holder, merged, spent};
+ghost use Rattle.pool_rule.specs.Views.{View, first_view, taking, counting, ending, undoing, narrower, part_of, parting, empty_pass, handing, holder, drawing, merged, spent};
 ghost use Rattle.pool_rule.specs.Rules.{Ruled};
 ghost use Rattle.pool_rule.specs.Plays.{AreOneEach, Told, taken, shared, left, looked};
 ghost use Rattle.pool_rule.specs.Steps.{AreCoreSteps};
@@ -17,7 +17,7 @@ ghost use Rattle.pool_rule.specs.Trades.{Trades, HasHolds, Stands};
 
 /// A pool whose words are 0 and whose one token holds nothing.
 pub fn pools_start_ruled<S>()
-    ensures { (k limit : ℕ) (slots : List S) → limit ≤ 2 ^ 18 → Ruled k (opening (zeroes (k + 1)) slots (blank (2 ^ 24) k limit 64)) }
+    ensures { (k limit workers : ℕ) (slots : List ℕ) (xs : List S) → limit ≤ 2 ^ 18 → workers ≤ 64 → Ruled k (opening (zeroes (k + 1)) xs (first_view (2 ^ 24) k limit workers slots)) }
 {}
 
 /// On the world of any table under the rule each step of a token is the count rule's step of the same name.
@@ -45,7 +45,7 @@ pub fn passes_keep_the_rule<S>()
 /// A token with room of its own is split from another, an empty pass or one with a direct hold becomes a token of its own, and a
 /// token's holds go behind another's.
 pub fn tokens_divide<S>()
-    ensures split { (k id room : ℕ) (v : View) → length v.holds + room ≤ v.room → v.over < v.spare → Splits {S = S} (Ruled k) id v (narrower room v) (part_of room v) }
+    ensures split { (k id room slots : ℕ) (v : View) → length v.holds + room ≤ v.room → v.over < v.spare → Splits {S = S} (Ruled k) id v (narrower room slots v) (part_of room slots v) }
     ensures part { (k id : ℕ) (v : View) → 0 < v.passes → length v.holds < v.room → Splits {S = S} (Ruled k) id v (parting v) (empty_pass v) }
     ensures hand { (k id : ℕ) (v : View) (t : Node) → In t v.holds → 0 < v.passes → Splits {S = S} (Ruled k) id v (handing t v) (holder t v) }
     ensures merge { (k id other : ℕ) (v w : View) → Joins {S = S} (Ruled k) id v other w (merged v w) (spent w) }
