@@ -13,13 +13,18 @@ use Rattle.node_forest.specs.Members.{In, Occurs}
 use Rattle.node_forest.proofs.Members.{root_occurs}
 use Rattle.count_core.specs.Views.{AreHeld, without}
 use Rattle.count_core.specs.Steps.{take, share, leave, look}
-use Rattle.pool_rule.specs.Views.{View, taking, noting, tried, sharing, releasing, looking}
+use Rattle.pool_rule.specs.Notes.{Use}
+use Rattle.pool_rule.specs.Views.{View, taking, noting, tried, sharing, leaving, looking}
 use Rattle.pool_rule.specs.Rules.{Among, IsSane, Ruled}
-use Rattle.pool_rule.specs.Plays.{Told, taken, shared, left, looked}
+use Rattle.pool_rule.specs.Plays.{Told, taken, shared, looked}
 use Rattle.pool_rule.proofs.Worlds.{sane_at}
 use Rattle.pool_rule.proofs.Taken.{among_left, among_right}
 use Rattle.pool_rule.proofs.Holds.{narrow_taken, narrow_shared, narrow_left, length-left}
 use Rattle.pool_rule.proofs.Steps.{Steady, low, same_held, word_some, word_low, take_does, share_does, leave_does, look_does, idle_world, does_ruled, idle_ruled}
+
+-- after a leave, with what slots are out
+abbrev pub leaving_with : (ℕ → List Use) → ℕ → Node → View → View
+leaving_with away n t v = record (leaving n t v) { away = away n }
 
 -- after a look that didn't find 1
 abbrev noted_look : ℕ → Node → View → View
@@ -80,21 +85,21 @@ module _ {S : Type 0} (k : ℕ) where
         told s id me (w, me.1) w r at refl refl sane,
       )
 
-  pub leaves_allowed : (slots id : ℕ) (me : Me S View) (t : Node) → In t me.0.holds → length (without (number t) me.0.holds ++ children t) ≤ me.0.room
-      → Allows (Ruled k) slots id me (number t) (λ n. (n + (2 ^ 64 - 1)) % 2 ^ 64) (left t (step slots (number t) 1 0 none) me)
-  leaves_allowed slots id me t here room s r _ at bound =
+  pub leaves_allowed : (slots id : ℕ) (me : Me S View) (t : Node) (away : ℕ → List Use) → In t me.0.holds → length (without (number t) me.0.holds ++ children t) ≤ me.0.room
+      → Allows (Ruled k) slots id me (number t) (λ n. (n + (2 ^ 64 - 1)) % 2 ^ 64) (λ n m'. Told (leaving_with away n t me.0) me m')
+  leaves_allowed slots id me t away here room s r _ at bound =
       let n : ℕ = get_or s.words (number t) 0 in
       let m : ℕ = (n + (2 ^ 64 - 1)) % 2 ^ 64 in
       let held = word_some k s id me.0 r at t (root_occurs t me.0.holds here) in
       let down : m ≡ n - 1 = omega arith in
-      let w : View = releasing n t me.0 in
+      let w : View = leaving_with away n t me.0 in
       let mine = sane_at k s.views id me.0 r.sane at in
       let long = length-left n t (without (number t) me.0.holds) in
       let sane : IsSane k w = record { size = mine.size; roomy = omega arith; narrow = narrow_left n t me.0.holds mine.narrow here; limited = mine.limited; fewer = mine.fewer } in (
         w,
         keeps,
         tt,
-        does_ruled k s id me.0 r at (leave id (number t)) (number t) m w me.1 (leave_does k s id me.0 r at t me.1 m here down) sane (refl, refl, refl, refl) (low k s id me.0 r at t (root_occurs t me.0.holds here)) (λ j a. a) (λ _. inl (λ e. absurd (omega arith))) refl,
+        does_ruled k s id me.0 r at (leave id (number t)) (number t) m w me.1 (leave_does k s id me.0 r at t w me.1 m refl here down) sane (refl, refl, refl, refl) (low k s id me.0 r at t (root_occurs t me.0.holds here)) (λ j a. a) (λ _. inl (λ e. absurd (omega arith))) refl,
         told s id me (w, me.1) w r at refl refl sane,
       )
 

@@ -2,6 +2,7 @@
 pub mod Notes
 pub mod Views
 pub mod Rules
+pub mod Pools
 pub mod Plays
 pub mod Steps
 pub mod Trades

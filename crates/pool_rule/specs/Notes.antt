@@ -19,9 +19,10 @@ pub record Look : Type 0 where
   pub found : ℕ
   pub shares : ℕ
 
--- a releaser slot that an external uses, and the external's length in bytes
+-- a releaser slot that an external uses, and that external's number and length in bytes
 pub record Use : Type 0 where
   pub slot : ℕ
+  pub number : ℕ
   pub length : ℕ
 
 -- the counted and uncounted steps of another token that was joined to this one when the pool was closed
@@ -47,7 +48,7 @@ unused_after External slots = drop 1 slots
 unused_after _ slots = slots
 
 abbrev pub use_of : Node → Use
-use_of t = record { slot = t.0.more; length = t.0.length }
+use_of t = record { slot = t.0.more; number = t.0.number; length = t.0.length }
 
 abbrev pub uses_of : Kind → Node → List Use
 uses_of External t = use_of t ∷ []
@@ -60,7 +61,7 @@ abbrev pub coded_look : Coded Look
 coded_look = coded_via (coded× coded_ℕ (coded× coded_ℕ coded_ℕ)) (λ (c : Look). (c.number, (c.found, c.shares))) (λ x y e i. record { number = (e i).0; found = (e i).1.0; shares = (e i).1.1 })
 
 abbrev pub coded_use : Coded Use
-coded_use = coded_via (coded× coded_ℕ coded_ℕ) (λ (c : Use). (c.slot, c.length)) (λ x y e i. record { slot = (e i).0; length = (e i).1 })
+coded_use = coded_via (coded× coded_ℕ (coded× coded_ℕ coded_ℕ)) (λ (c : Use). (c.slot, (c.number, c.length))) (λ x y e i. record { slot = (e i).0; number = (e i).1.0; length = (e i).1.1 })
 
 abbrev pub coded_tally : Coded Tally
 coded_tally = coded_via (coded× (coded_list coded_count) (coded× coded_ℕ coded_ℕ)) (λ (c : Tally). (c.counts, (c.made, c.ended))) (λ x y e i. record { counts = (e i).0; made = (e i).1.0; ended = (e i).1.1 })

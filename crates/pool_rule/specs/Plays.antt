@@ -3,8 +3,8 @@ use Rattle.std.specs.Prelude.{◌≡◌, ℕ, List}
 use Rattle.atomic_table.specs.Table.{Me}
 use Rattle.atomic_table.specs.Table as table
 use Rattle.node_forest.specs.Label.{Node, number}
-use Rattle.node_forest.specs.Members.{In}
-use Rattle.pool_rule.specs.Views.{View, tried, sharing, releasing, looking}
+use Rattle.node_forest.specs.Members.{In, Occurs}
+use Rattle.pool_rule.specs.Views.{View, tried, sharing, leaving, looking}
 use Rattle.pool_rule.specs.Rules.{IsSane}
 
 -- of holds with one number there is one node only
@@ -27,9 +27,9 @@ module _ {S : Type 0} where
   abbrev pub shared : Node → table.Step S → Me S View → ℕ → Me S View → Type 0
   shared t st m found m' = Told (sharing t m.0) m m'
 
-  -- the hold goes, and where 1 is found the node's edges are direct holds
+  -- the hold goes, and where 1 is found the node's edges are direct holds, and it stands in no tree any more
   abbrev pub left : Node → table.Step S → Me S View → ℕ → Me S View → Type 0
-  left t st m found m' = Told (releasing found t m.0) m m'
+  left t st m found m' = Told (leaving found t m.0) m m' × (found ≡ 1 → Occurs t m'.0.holds → ⊥)
 
   -- where 1 is found, the number is lone; else the look is noted
   abbrev pub looked : Node → table.Step S → Me S View → ℕ → Me S View → Type 0
