@@ -16,11 +16,18 @@ use Rattle.count_core.specs.Steps.{take, share, leave, look}
 use Rattle.pool_rule.specs.Notes.{Use}
 use Rattle.pool_rule.specs.Views.{View, taking, noting, tried, sharing, leaving, looking}
 use Rattle.pool_rule.specs.Rules.{Among, IsSane, Ruled}
-use Rattle.pool_rule.specs.Plays.{Told, taken, shared, looked}
+use Rattle.pool_rule.specs.Plays.{AreOneEach}
 use Rattle.pool_rule.proofs.Worlds.{sane_at}
 use Rattle.pool_rule.proofs.Taken.{among_left, among_right}
 use Rattle.pool_rule.proofs.Holds.{narrow_taken, narrow_shared, narrow_left, length-left}
 use Rattle.pool_rule.proofs.Steps.{Steady, low, same_held, word_some, word_low, take_does, share_does, leave_does, look_does, idle_world, does_ruled, idle_ruled}
+
+-- the token knows w now, and carries the same slots
+pub record Moved {S : Type 0} (w : View) (before after : Me S View) : Type 0 where
+  pub view : after.0 ≡ w
+  pub slots : after.1 ≡ before.1
+  pub sane : IsSane w.size w
+  pub one_each : AreOneEach before.0.holds
 
 -- after a leave, with what slots are out
 abbrev pub leaving_with : (ℕ → List Use) → ℕ → Node → View → View
@@ -34,14 +41,14 @@ sane_own : (k : ℕ) (w : View) → IsSane k w → IsSane w.size w
 sane_own k w s = record { size = refl; roomy = s.roomy; narrow = s.narrow; limited = s.limited; fewer = s.fewer }
 
 module _ {S : Type 0} (k : ℕ) where
-  pub told : (s : State S View) (id : ℕ) (m m' : Me S View) (w : View) → Ruled k s → get_elem? s.views id ≡ some m.0 → m'.0 ≡ w → m'.1 ≡ m.1 → IsSane k w → Told w m m'
+  pub told : (s : State S View) (id : ℕ) (m m' : Me S View) (w : View) → Ruled k s → get_elem? s.views id ≡ some m.0 → m'.0 ≡ w → m'.1 ≡ m.1 → IsSane k w → Moved w m m'
   told s id m m' w r at view slots sane = record { view = view; slots = slots; sane = sane_own k w sane; one_each = same_held k s id m.0 r at }
 
-  told_as : (s : State S View) (id : ℕ) (m m' : Me S View) (w x : View) → Ruled k s → get_elem? s.views id ≡ some m.0 → m'.0 ≡ w → m'.1 ≡ m.1 → IsSane k w → w ≡ x → Told x m m'
-  told_as s id m m' w x r at view slots sane is = subst (λ (z : View). Told z m m') is (told s id m m' w r at view slots sane)
+  told_as : (s : State S View) (id : ℕ) (m m' : Me S View) (w x : View) → Ruled k s → get_elem? s.views id ≡ some m.0 → m'.0 ≡ w → m'.1 ≡ m.1 → IsSane k w → w ≡ x → Moved x m m'
+  told_as s id m m' w x r at view slots sane is = subst (λ (z : View). Moved z m m') is (told s id m m' w r at view slots sane)
 
   pub takes_allowed : (slots id : ℕ) (me : Me S View) (t : Node) → number t < k → AreHeld (children t) me.0.holds → length (children t) ≤ 6 → length (taking t me.0).holds ≤ me.0.room
-      → Allows (Ruled k) slots id me (number t) (λ n. either (eqb n 0) 1 n) (taken t (step slots (number t) 0 1 none) me)
+      → Allows (Ruled k) slots id me (number t) (λ n. either (eqb n 0) 1 n) (λ n m'. Moved (tried n t me.0) me m')
   takes_allowed slots id me t l held few room s r _ at _ =
       let n : ℕ = get_or s.words (number t) 0 in
       let f : ℕ → ℕ = λ j. either (eqb j 0) 1 j in
@@ -56,7 +63,7 @@ module _ {S : Type 0} (k : ℕ) where
       (does_ruled k s id me.0 r at (take id (number t) t) (number t) 1 w me.1 (take_does k s id me.0 r at t me.1 l free held) sane (refl, refl, refl, refl) l
       (λ j a. among_left j me.0.taken (number t ∷ []) a) (λ _. inr (among_right (number t) me.0.taken (number t ∷ []) (inl refl))) refl) in
       let is : tried n t me.0 ≡ w = ap (λ (b : Bool). if b then w else noting (number t) me.0) (eq-eqb n 0 free) in
-      (w, keeps, tt, ruled, subst (λ (z : View). Told z me (w, me.1)) (sym is) (told s id me (w, me.1) w r at refl refl sane)))
+      (w, keeps, tt, ruled, subst (λ (z : View). Moved z me (w, me.1)) (sym is) (told s id me (w, me.1) w r at refl refl sane)))
       (λ full.
       let w : View = noting (number t) me.0 in
       let sane : IsSane k w = record { size = mine.size; roomy = mine.roomy; narrow = mine.narrow; limited = mine.limited; fewer = mine.fewer } in
@@ -64,10 +71,10 @@ module _ {S : Type 0} (k : ℕ) where
       let ruled : Ruled k (stepped s (number t) (f n) id me.1 w keeps) =
       idle_ruled k s id me.0 r at (number t) (f n) w me.1 (idle_world k s id me.0 r at (number t) (f n) w me.1 l is_f refl) sane (refl, refl, refl, refl) l full refl refl in
       let is : tried n t me.0 ≡ w = ap (λ (b : Bool). if b then taking t me.0 else w) (ne_eqb n 0 full) in
-      (w, keeps, tt, ruled, subst (λ (z : View). Told z me (w, me.1)) (sym is) (told s id me (w, me.1) w r at refl refl sane)))
+      (w, keeps, tt, ruled, subst (λ (z : View). Moved z me (w, me.1)) (sym is) (told s id me (w, me.1) w r at refl refl sane)))
 
   pub shares_allowed : (slots id : ℕ) (me : Me S View) (t : Node) → k ≤ 2 ^ 18 → Occurs t me.0.holds → length me.0.holds < me.0.room
-      → Allows (Ruled k) slots id me (number t) (λ n. (n + 1) % 2 ^ 64) (shared t (step slots (number t) 1 0 none) me)
+      → Allows (Ruled k) slots id me (number t) (λ n. (n + 1) % 2 ^ 64) (λ n m'. Moved (sharing t me.0) me m')
   shares_allowed slots id me t small here room s r _ at _ =
       let n : ℕ = get_or s.words (number t) 0 in
       let m : ℕ = (n + 1) % 2 ^ 64 in
@@ -86,7 +93,7 @@ module _ {S : Type 0} (k : ℕ) where
       )
 
   pub leaves_allowed : (slots id : ℕ) (me : Me S View) (t : Node) (away : ℕ → List Use) → In t me.0.holds → length (without (number t) me.0.holds ++ children t) ≤ me.0.room
-      → Allows (Ruled k) slots id me (number t) (λ n. (n + (2 ^ 64 - 1)) % 2 ^ 64) (λ n m'. Told (leaving_with away n t me.0) me m')
+      → Allows (Ruled k) slots id me (number t) (λ n. (n + (2 ^ 64 - 1)) % 2 ^ 64) (λ n m'. Moved (leaving_with away n t me.0) me m')
   leaves_allowed slots id me t away here room s r _ at bound =
       let n : ℕ = get_or s.words (number t) 0 in
       let m : ℕ = (n + (2 ^ 64 - 1)) % 2 ^ 64 in
@@ -104,7 +111,7 @@ module _ {S : Type 0} (k : ℕ) where
       )
 
   pub looks_allowed : (slots id : ℕ) (me : Me S View) (t : Node) → Occurs t me.0.holds
-      → Allows (Ruled k) slots id me (number t) (λ n. n) (looked t (step slots (number t) 0 0 none) me)
+      → Allows (Ruled k) slots id me (number t) (λ n. n) (λ n m'. Moved (looking n t me.0) me m')
   looks_allowed slots id me t here s r _ at _ =
       let n : ℕ = get_or s.words (number t) 0 in
       let mine = sane_at k s.views id me.0 r.sane at in
@@ -117,7 +124,7 @@ module _ {S : Type 0} (k : ℕ) where
       (sym (ap (λ (b : Bool). if b then record me.0 { lone = me.0.lone ++ number t ∷ [] } else noted_look n t me.0) (ne_eqb n 1 more))) refl refl (refl, refl, refl, refl) refl)
     where
       looks_to : (s : State S View) (r : Ruled k s) → get_elem? s.views id ≡ some me.0 → (n : ℕ) → get_or s.words (number t) 0 ≡ n → (w : View) → IsSane k w → w ≡ looking n t me.0 → w.holds ≡ me.0.holds → w.taken ≡ me.0.taken → Steady me.0 w → w.full ≡ me.0.full
-          → (w : View) × (a : Act S) × Valid s.homes me.1 a × Ruled k (stepped s (number t) n id me.1 w a) × Told (looking n t me.0) me (w, carried_after me.1 a)
+          → (w : View) × (a : Act S) × Valid s.homes me.1 a × Ruled k (stepped s (number t) n id me.1 w a) × Moved (looking n t me.0) me (w, carried_after me.1 a)
       looks_to s r at n word w sane is holds taken steady full =
           let l = low k s id me.0 r at t here in
           let held = word_some k s id me.0 r at t here in (

@@ -12,16 +12,17 @@ use Rattle.node_forest.specs.Members.{Occurs}
 use Rattle.node_forest.proofs.Members.{root_occurs}
 use Rattle.count_core.specs.Steps.{zeroes}
 use Rattle.count_core.specs.Views.{without, without_all}
-use Rattle.pool_rule.specs.Views.{View, taking, noting, tried, sharing, leaving, looking, counting_below, counting_over, counting, ending, undoing, narrower, part_of, parting, empty_pass, handing, holder, drawing, merged, first_view, spent}
+use Rattle.pool_rule.specs.Views.{View, taking, noting, tried, sharing, leaving, looking, counting_below, counting_over, counting, ending, undoing, narrower, part_of, parting, empty_pass, handing, giving, without_node, holder, drawing, merged, first_view, spent}
 use Rattle.pool_rule.specs.Rules.{Ruled}
 use Rattle.pool_rule.specs.Plays.{AreOneEach, Told, taken, shared, left, looked}
 use Rattle.pool_rule.specs.Pools.{Terms, IsBare, Kept}
 use Rattle.pool_rule.specs.Trades.{HasHolds, Stands}
 use Rattle.pool_rule.proofs.Allowed.{takes_allowed, shares_allowed, leaves_allowed, looks_allowed}
 use Rattle.pool_rule.proofs.Door.{held-in, held-core, stands-occurs, takes-trades_held, leaves-trades}
+use Rattle.pool_rule.proofs.Giving.{without_node-number}
 use Rattle.pool_rule.proofs.Hands.{hands_allowed}
 use Rattle.pool_rule.proofs.Passes.{counts_allowed, ends_allowed, undoes_allowed, parts_allowed}
-use Rattle.pool_rule.proofs.Pools.{step_allowed, stepped_kept, split_allowed, join_allowed, rehomed}
+use Rattle.pool_rule.proofs.Pools.{step_allowed, stepped_kept, told_after, split_allowed, join_allowed, rehomed}
 use Rattle.pool_rule.proofs.Steps.{low, same_held, word_some}
 use Rattle.pool_rule.proofs.Tokens.{starts, splits_allowed, joins_allowed}
 use Rattle.pool_rule.proofs.Worlds.{at_lt}
@@ -100,7 +101,7 @@ module _ {S : Type 0} (p : Terms S) (slots id : ℕ) (me : Me S View) (worker : 
         keeps,
         tt,
         stepped_kept p s id (number t) m me.0 w me.1 r at worker refl ruled,
-        (record { view = refl; slots = refl; sane = told.sane; one_each = told.one_each },
+        (told_after p s id (number t) m me w ruled told at,
          λ last occurs. let some_ = word_some p.numbers (stepped s (number t) m id me.1 w keeps) id w ruled (set_here s.views id w (at_lt s.views id me.0 at)) t occurs in omega arith),
       )
 
@@ -120,8 +121,12 @@ module _ {S : Type 0} (p : Terms S) (id : ℕ) where
   pub parts : (v : View) → 0 < v.spare → 0 < v.passes → length v.holds < v.room → Splits {S = S} (Kept p) id v (parting v) (empty_pass v)
   parts v worker own room = split_allowed p id v (parting v) (empty_pass v) (omega arith) (λ z. absurd (omega arith)) (λ z. bare_pass v) (parts_allowed p.numbers id v own room)
 
-  pub hands : (v : View) (t : Node) → 0 < v.spare → 0 < v.passes → HasHolds v.holds (t ∷ []) → Splits {S = S} (Kept p) id v (handing t v) (holder t v)
-  hands v t worker own held = split_allowed p id v (handing t v) (holder t v) (omega arith) (λ z. absurd (omega arith)) (λ z. bare_holder t v) (hands_allowed p.numbers id v t (held-in v.holds t held) own)
+  pub hands : (v : View) (t : Node) → 0 < v.spare → 0 < v.passes → HasHolds v.holds (t ∷ []) → Splits {S = S} (Kept p) id v (giving t v) (holder t v)
+  hands v t worker own held s r at =
+      let here = held-in v.holds t held in
+      let same : without (number t) v.holds ≡ without_node t v.holds = sym (without_node-number t v.holds here (λ u i e. same_held p.numbers s id v r.counted at u t i here e)) in
+      subst (λ (hs : List Node). Kept p record { words = s.words; homes = s.homes; views = set s.views id (record (handing t v) { holds = hs }) ++ holder t v ∷ [] }) same
+      (split_allowed p id v (handing t v) (holder t v) (omega arith) (λ z. absurd (omega arith)) (λ z. bare_holder t v) (hands_allowed p.numbers id v t here own) s r at)
 
   -- a pass is taken back
   pub draws : (other : ℕ) (v w : View) → 0 < v.spare → w.spare ≡ 0 → IsBare w → Joins {S = S} (Kept p) id v other w (drawing v w) (spent w)

@@ -12,3 +12,4 @@ pub mod Pools
 pub mod Calls
 pub mod Trades
 pub mod Door
+pub mod Giving

@@ -3,12 +3,15 @@ use Rattle.std.proofs.Common.{◌≡◌, ◌≢◌, ⊎_elim, ℕ, ◌+◌, ◌<
 use mathlib.Core.Option.{some, none, some-injective}
 use lib.ListN.{get_elem?}
 use Rattle.atomic_table.specs.Table.{State, Me, Act, keeps, stepped, Allows, Splits, Joins}
-use Rattle.atomic_table.proofs.Lists.{at_set, at_snoc, set_else}
+use Rattle.atomic_table.proofs.Lists.{at_set, at_snoc, set_here, set_else}
+use Rattle.node_forest.specs.Label.{number}
 use Rattle.pool_rule.specs.Views.{View, spent}
 use Rattle.pool_rule.specs.Rules.{spares, Ruled}
 use Rattle.pool_rule.specs.Plays.{Told}
 use Rattle.pool_rule.specs.Pools.{Terms, IsBare, AreBare, Kept}
-use Rattle.pool_rule.proofs.Worlds.{spares_set}
+use Rattle.pool_rule.proofs.Allowed.{Moved}
+use Rattle.pool_rule.proofs.Steps.{low}
+use Rattle.pool_rule.proofs.Worlds.{at_lt, sane_at, spares_set}
 use Rattle.pool_rule.proofs.Tokens.{spares-append}
 
 -- a token with a worker's share is never bare
@@ -41,9 +44,21 @@ module _ {S : Type 0} (p : Terms S) where
     bare = bare_set s.views id w r.bare (λ z. absurd (omega arith));
   }
 
+  pub told_after : (s : State S View) (id i m : ℕ) (me : Me S View) (w : View) {x : Me S View} → Ruled p.numbers (stepped s i m id me.1 w keeps) → Moved w me x → get_elem? s.views id ≡ some me.0 → Told w me (w, me.1)
+  told_after s id i m me w ruled moved at =
+      let here = set_here s.views id w (at_lt s.views id me.0 at) in
+      let size = (sane_at p.numbers (set s.views id w) id w ruled.sane here).size in
+      record {
+        view = refl;
+        slots = refl;
+        sane = moved.sane;
+        fits = λ t o. subst (λ (k : ℕ). number t < k) (sym size) (low p.numbers (stepped s i m id me.1 w keeps) id w ruled here t o);
+        one_each = moved.one_each;
+      }
+
   -- a step that the count rule allows and that takes no slot
   pub step_allowed : (slots id i : ℕ) (me : Me S View) (f : ℕ → ℕ) (after : ℕ → View) → 0 < me.0.spare → ((n : ℕ) → (after n).spare ≡ me.0.spare)
-      → Allows (Ruled p.numbers) slots id me i f (λ n m'. Told (after n) me m') → Allows (Kept p) slots id me i f (λ n m'. Told (after n) me m')
+      → Allows (Ruled p.numbers) slots id me i f (λ n m'. Moved (after n) me m') → Allows (Kept p) slots id me i f (λ n m'. Told (after n) me m')
   step_allowed slots id i me f after some_ same allows s r homes at low =
       let n : ℕ = get_or s.words i 0 in
       let h = allows s r.counted homes at low in
@@ -54,7 +69,7 @@ module _ {S : Type 0} (p : Terms S) where
         keeps,
         tt,
         stepped_kept s id i (f n) me.0 (after n) me.1 r at some_ (same n) ruled,
-        record { view = refl; slots = refl; sane = told.sane; one_each = told.one_each },
+        told_after s id i (f n) me (after n) ruled told at,
       )
 
   pub split_allowed : (id : ℕ) (v left right : View) → left.spare + right.spare ≡ v.spare → (left.spare ≡ 0 → IsBare left) → (right.spare ≡ 0 → IsBare right)

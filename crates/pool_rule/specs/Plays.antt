@@ -4,6 +4,7 @@ use Rattle.atomic_table.specs.Table.{Me}
 use Rattle.atomic_table.specs.Table as table
 use Rattle.node_forest.specs.Label.{Node, number}
 use Rattle.node_forest.specs.Members.{In, Occurs}
+use Rattle.count_core.specs.Holders.{Fitting}
 use Rattle.pool_rule.specs.Views.{View, tried, sharing, leaving, looking}
 use Rattle.pool_rule.specs.Rules.{IsSane}
 
@@ -16,6 +17,7 @@ pub record Told {S : Type 0} (w : View) (before after : Me S View) : Type 0 wher
   pub view : after.0 ≡ w
   pub slots : after.1 ≡ before.1
   pub sane : IsSane w.size w
+  pub fits : Fitting w.size w.holds
   pub one_each : AreOneEach before.0.holds
 
 module _ {S : Type 0} where

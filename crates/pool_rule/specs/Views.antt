@@ -1,10 +1,11 @@
 -- What a token of the pool knows, and how its steps change that.
-use Rattle.std.specs.Prelude.{ℕ, ◌+◌, ◌-◌, List, [], ◌∷◌, ◌++◌, Some, ◌==◌, nat_lt, if◌then◌else◌, take, drop}
+use Rattle.std.specs.Prelude.{◌≡◌, ℕ, ◌+◌, ◌-◌, List, [], ◌∷◌, ◌++◌, Some, ◌==◌, nat_lt, if◌then◌else◌, take, drop}
 use Rattle.std.specs.Coded.{Coded, coded_ℕ, coded×, coded_list}
 use base.Stored.{coded_via}
 use Rattle.node_forest.specs.Forest.{children, below}
 use Rattle.node_forest.specs.Label.{Node, number}
 use Rattle.node_forest.specs.Codes.{coded_node}
+use Rattle.node_forest.proofs.Same.{node_discrete}
 use Rattle.count_core.specs.Views.{without, without_all, passed_on}
 use Rattle.pool_rule.specs.Notes.{Count, Look, Use, Tally, lone_but, unused_after, uses_of, coded_count, coded_look, coded_use, coded_tally}
 
@@ -145,6 +146,18 @@ empty_pass v = record (blank 1 v.size v.limit 0) { passes = 1 }
 -- after one direct hold went to a pass, and that pass
 abbrev pub handing : Node → View → View
 handing t v = record v { holds = without (number t) v.holds; room = v.room - 1; passes = v.passes - 1; lone = lone_but (below t) v.lone }
+
+-- the same, where the hold is found by the whole node
+abbrev pub skip_by : {x t : Node} → Dec (x ≡ t) → List Node → List Node → List Node
+skip_by {x} (yes p) xs rest = xs
+skip_by {x} (no n) xs rest = x ∷ rest
+
+unfoldable pub without_node : Node → List Node → List Node
+without_node t [] = []
+without_node t (x ∷ xs) = skip_by (node_discrete x t) xs (without_node t xs)
+
+abbrev pub giving : Node → View → View
+giving t v = record (handing t v) { holds = without_node t v.holds }
 
 abbrev pub holder : Node → View → View
 holder t v = record (empty_pass v) { holds = t ∷ [] }

@@ -9,7 +9,7 @@ ghost use Rattle.node_forest.specs.Label.{Node, number};
 ghost use Rattle.node_forest.specs.Members.{In, Occurs};
 ghost use Rattle.count_core.specs.Views.{AreHeld, without, without_all};
 ghost use Rattle.count_core.specs.Steps.{zeroes};
-ghost use Rattle.pool_rule.specs.Views.{View, first_view, counting, ending, undoing, narrower, part_of, parting, empty_pass, handing, holder, drawing, merged, spent};
+ghost use Rattle.pool_rule.specs.Views.{View, first_view, counting, ending, undoing, narrower, part_of, parting, empty_pass, giving, holder, drawing, merged, spent};
 ghost use Rattle.pool_rule.specs.Rules.{Ruled};
 ghost use Rattle.pool_rule.specs.Pools.{Terms, IsBare, Kept};
 ghost use Rattle.pool_rule.specs.Plays.{AreOneEach, Told, taken, shared, left, looked};
@@ -48,7 +48,7 @@ pub fn passes_keep_the_rule<S>()
 pub fn tokens_divide<S>()
     ensures split { (p : Terms S) (id room slots : ℕ) (v : View) → length v.holds + room ≤ v.room → 1 < v.spare → v.over < v.spare → Splits {S = S} (Kept p) id v (narrower room slots v) (part_of room slots v) }
     ensures part { (p : Terms S) (id : ℕ) (v : View) → 0 < v.spare → 0 < v.passes → length v.holds < v.room → Splits {S = S} (Kept p) id v (parting v) (empty_pass v) }
-    ensures hand { (p : Terms S) (id : ℕ) (v : View) (t : Node) → 0 < v.spare → 0 < v.passes → HasHolds v.holds (t ∷ []) → Splits {S = S} (Kept p) id v (handing t v) (holder t v) }
+    ensures hand { (p : Terms S) (id : ℕ) (v : View) (t : Node) → 0 < v.spare → 0 < v.passes → HasHolds v.holds (t ∷ []) → Splits {S = S} (Kept p) id v (giving t v) (holder t v) }
     ensures draw { (p : Terms S) (id other : ℕ) (v w : View) → 0 < v.spare → w.spare ≡ 0 → IsBare w → Joins {S = S} (Kept p) id v other w (drawing v w) (spent w) }
     ensures merge { (p : Terms S) (id other : ℕ) (v w : View) → 0 < v.spare → Joins {S = S} (Kept p) id v other w (merged v w) (spent w) }
 {}
