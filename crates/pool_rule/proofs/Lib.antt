@@ -8,5 +8,8 @@ pub mod Tokens
 pub mod Hands
 pub mod Ends
 pub mod Passes
+pub mod Pools
+pub mod Calls
 pub mod Trades
 pub mod Door
+pub mod Giving
