@@ -13,3 +13,4 @@ pub mod Calls
 pub mod Trades
 pub mod Door
 pub mod Giving
+pub mod MarkSteps

@@ -6,3 +6,4 @@ pub mod Pools
 pub mod Plays
 pub mod Steps
 pub mod Trades
+pub mod Marks

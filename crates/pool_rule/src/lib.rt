@@ -3,6 +3,7 @@
 #![tactic(auto)]
 
 mod laws;
+mod marks;
 #[cfg(test)]
 mod tests;
 
@@ -10,3 +11,4 @@ pub use laws::{
     idle_pools_are_empty, passes_keep_the_rule, pools_start_ruled, steps_are_the_count_rules,
     steps_keep_the_rule, tokens_divide, weights_tell_holds,
 };
+pub use marks::{marks_are_the_count_rules, marks_keep_the_rule};
