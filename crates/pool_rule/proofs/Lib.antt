@@ -14,3 +14,4 @@ pub mod Trades
 pub mod Door
 pub mod Giving
 pub mod MarkSteps
+pub mod EdgeMarks

@@ -7,3 +7,4 @@ pub mod Plays
 pub mod Steps
 pub mod Trades
 pub mod Marks
+pub mod EdgeMarks
