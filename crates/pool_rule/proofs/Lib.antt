@@ -8,6 +8,8 @@ pub mod Tokens
 pub mod Hands
 pub mod Ends
 pub mod Passes
+pub mod Tallies
+pub mod Alone
 pub mod Pools
 pub mod Calls
 pub mod Trades

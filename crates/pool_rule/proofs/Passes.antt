@@ -18,7 +18,7 @@ use Rattle.pool_rule.proofs.Steps.{core_steps, live_low}
 use Rattle.pool_rule.proofs.Allowed.{Moved, told}
 use Rattle.pool_rule.proofs.Tokens.{rooms-append, passes-append, overs-append, spares-append, sane_append, split_does}
 
-passes_le : (views : List View) (id : ℕ) (v : View) → get_elem? views id ≡ some v → v.passes ≤ passes views
+pub passes_le : (views : List View) (id : ℕ) (v : View) → get_elem? views id ≡ some v → v.passes ≤ passes views
 passes_le views id v at = let a = passes_set views id v (blank 0 0 0 0) at in omega arith
 
 module _ {S : Type 0} (k : ℕ) (s : State S View) (id : ℕ) (v : View) (r : Ruled k s) (at : get_elem? s.views id ≡ some v) where

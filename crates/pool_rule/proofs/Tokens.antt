@@ -28,7 +28,7 @@ take-more_zeroes (suc k) = ap (λ (ws : List ℕ). 0 ∷ ws) (take-more_zeroes k
 take-zeroes : (k : ℕ) → take k (zeroes (k + 1)) ≡ zeroes k
 take-zeroes k = ap (λ (n : ℕ). take k (zeroes n)) (add-one k) ∙ take-more_zeroes k
 
-zero-at : (k n : ℕ) → get_or (zeroes k) n 0 ≡ 0
+pub zero-at : (k n : ℕ) → get_or (zeroes k) n 0 ≡ 0
 zero-at zero n = refl
 zero-at (suc k) zero = refl
 zero-at (suc k) (suc n) = zero-at k n

@@ -1,9 +1,13 @@
 -- The whole rule of the pool's table: besides the count rule what each token knows of lone numbers, of the word of live passes and of releaser slots.
-use Rattle.std.specs.Prelude.{◌≡◌, ◌⊎◌, ℕ, List, [], ◌∷◌}
+use Rattle.std.specs.Prelude.{◌≡◌, ◌≢◌, ◌⊎◌, ℕ, ◌+◌, ◌<◌, ◌≤◌, List, [], ◌∷◌, sum_by, slice_index}
 use Rattle.std.specs.Prelude.{Option as Maybe, Some, None, slice_index_or}
 use mathlib.Core.Option.{some}
 use lib.ListN.{get_elem?}
 use Rattle.atomic_table.specs.Table.{State}
+use Rattle.node_forest.specs.Label.{Node, number}
+use Rattle.node_forest.specs.Forest.{children}
+use Rattle.node_forest.specs.Members.{In, Occurs}
+use Rattle.pool_rule.specs.Notes.{Count, Tally}
 use Rattle.pool_rule.specs.Views.{View}
 use Rattle.pool_rule.specs.Rules.{spares, Ruled}
 
@@ -64,8 +68,43 @@ pub record IsBare (v : View) : Type 0 where
 abbrev pub AreBare : List View → Type 0
 AreBare views = (id : ℕ) (v : View) → get_elem? views id ≡ some v → v.spare ≡ 0 → IsBare v
 
+-- ---- lone numbers
+-- the word is 1, and no other token's trees have the number
+pub record IsAlone (numbers : ℕ) (words : List ℕ) (views : List View) (id n : ℕ) : Type 0 where
+  pub low : n < numbers
+  pub one : slice_index words n ≡ 1
+  pub apart : (other : ℕ) (w : View) → get_elem? views other ≡ some w → other ≢ id → (x : Node) → Occurs x w.holds → number x ≢ n
+
+abbrev pub AreLone : ℕ → List ℕ → List View → Type 0
+AreLone numbers words views = (id n : ℕ) (v : View) → get_elem? views id ≡ some v → Member n v.lone → IsAlone numbers words views id n
+
+-- a look is made of a direct hold, or of an edge of a node whose number is lone
+abbrev pub IsReached : Node → View → Type 0
+IsReached t v = In t v.holds ⊎ ((q : Node) × Occurs q v.holds × Member (number q) v.lone × In t (children q))
+
+-- ---- the word of live passes
+-- counted and uncounted steps of a token, and of those that were joined to it
+abbrev pub made_by : View → ℕ
+made_by v = v.made + sum_by (λ (t : Tally). t.made) v.joined
+
+abbrev pub ended_by : View → ℕ
+ended_by v = v.ended + sum_by (λ (t : Tally). t.ended) v.joined
+
+-- The word that a counted step found is at most the live passes of its own token then, and the counted steps that all others ever
+-- made, and at least the own ones less the uncounted steps of all others.
+pub record IsWithin (all_made all_ended made ended : ℕ) (c : Count) : Type 0 where
+  pub most : c.found + c.ended + made ≤ c.made + all_made
+  pub least : c.made + ended ≤ c.found + c.ended + all_ended
+
+pub record Tallied (word : ℕ) (views : List View) : Type 0 where
+  pub live : word + sum_by ended_by views ≡ sum_by made_by views
+  pub own : (id : ℕ) (v : View) → get_elem? views id ≡ some v → (c : Count) → Member c v.counts → IsWithin (sum_by made_by views) (sum_by ended_by views) v.made v.ended c
+  pub joined : (id : ℕ) (v : View) → get_elem? views id ≡ some v → (t : Tally) → Member t v.joined → (c : Count) → Member c t.counts → IsWithin (sum_by made_by views) (sum_by ended_by views) t.made t.ended c
+
 -- ---- the rule
 pub record Kept {S : Type 0} (p : Terms S) (s : State S View) : Type 0 where
   pub counted : Ruled p.numbers s
   pub workers : spares s.views ≡ p.workers
   pub bare : AreBare s.views
+  pub lone : AreLone p.numbers s.words s.views
+  pub tallied : Tallied (slice_index s.words p.numbers) s.views

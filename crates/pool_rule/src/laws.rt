@@ -11,7 +11,7 @@ ghost use Rattle.count_core.specs.Views.{AreHeld, without, without_all};
 ghost use Rattle.count_core.specs.Steps.{zeroes};
 ghost use Rattle.pool_rule.specs.Views.{View, first_view, counting, ending, undoing, narrower, part_of, parting, empty_pass, giving, holder, drawing, merged, spent};
 ghost use Rattle.pool_rule.specs.Rules.{Ruled};
-ghost use Rattle.pool_rule.specs.Pools.{Terms, IsBare, Kept};
+ghost use Rattle.pool_rule.specs.Pools.{Terms, IsBare, IsReached, made_by, ended_by, Kept};
 ghost use Rattle.pool_rule.specs.Plays.{AreOneEach, Told, taken, shared, left, looked};
 ghost use Rattle.pool_rule.specs.Steps.{AreCoreSteps};
 ghost use Rattle.pool_rule.specs.Trades.{Trades, HasHolds, Stands};
@@ -32,7 +32,7 @@ pub fn steps_keep_the_rule<S>()
     ensures take { (p : Terms S) (slots id : ℕ) (me : Me S View) (t : Node) → 0 < me.0.spare → number t < p.numbers → HasHolds me.0.holds (children t) → length (children t) ≤ 6 → length me.0.holds < me.0.room + length (children t) → Allows (Kept p) slots id me (number t) (λ n. either (n == 0) 1 n) (taken t (step slots (number t) 0 1 none) me) }
     ensures share { (p : Terms S) (slots id : ℕ) (me : Me S View) (t : Node) → 0 < me.0.spare → p.numbers ≤ 2 ^ 18 → Stands me.0.holds t → length me.0.holds < me.0.room → Allows (Kept p) slots id me (number t) (λ n. (n + 1) % 2 ^ 64) (shared t (step slots (number t) 1 0 none) me) }
     ensures leave { (p : Terms S) (slots id : ℕ) (me : Me S View) (t : Node) → 0 < me.0.spare → HasHolds me.0.holds (t ∷ []) → length me.0.holds + length (children t) ≤ me.0.room + 1 → Allows (Kept p) slots id me (number t) (λ n. (n + (2 ^ 64 - 1)) % 2 ^ 64) (left t (step slots (number t) 1 0 none) me) }
-    ensures look { (p : Terms S) (slots id : ℕ) (me : Me S View) (t : Node) → 0 < me.0.spare → Stands me.0.holds t → Allows (Kept p) slots id me (number t) (λ n. n) (looked t (step slots (number t) 0 0 none) me) }
+    ensures look { (p : Terms S) (slots id : ℕ) (me : Me S View) (t : Node) → 0 < me.0.spare → IsReached t me.0 → Allows (Kept p) slots id me (number t) (λ n. n) (looked t (step slots (number t) 0 0 none) me) }
 {}
 
 /// A pass is counted by an addition of 1 to the word of live passes; it ends, or is taken back where the limit was reached, by a
@@ -55,7 +55,7 @@ pub fn tokens_divide<S>()
 
 /// Where one token has the shares of all workers, holds nothing and ended the passes that it made, no number is in use.
 pub fn idle_pools_are_empty<S>()
-    ensures { (p : Terms S) (s : State S View) (id : ℕ) (v : View) → Kept p s → get_elem? s.views id ≡ some v → v.spare ≡ p.workers → v.passes ≡ 0 → slice_index s.words p.numbers ≡ 0 → v.holds ≡ [] → (n : ℕ) → n < p.numbers → slice_index s.words n ≡ 0 }
+    ensures { (p : Terms S) (s : State S View) (id : ℕ) (v : View) → Kept p s → get_elem? s.views id ≡ some v → v.spare ≡ p.workers → v.passes ≡ 0 → made_by v ≡ ended_by v → v.holds ≡ [] → (n : ℕ) → n < p.numbers → slice_index s.words n ≡ 0 }
 {}
 
 /// What those who use the pool know of their holds by weights is what the steps ask for, and what the steps tell is a trade of
