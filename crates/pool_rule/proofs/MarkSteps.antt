@@ -3,6 +3,7 @@ use Rattle.std.proofs.Common.{◌≡◌, ◌≢◌, ◌⊎◌, inl, inr, ⊎_eli
 use Rattle.std.specs.Prelude.{Option, Some, None}
 use mathlib.Core.Option.{none, some}
 use lib.ListN.{get_elem?}
+use Rattle.atomic_table.proofs.Lists.{at_set}
 use Rattle.atomic_table.specs.Table.{State, Me, keeps, step, stepped, Allows}
 use Rattle.node_forest.specs.declared.kind.Kind.TheVariants.{Flat, External, Branch}
 use Rattle.node_forest.specs.Forest.{children}
@@ -19,12 +20,13 @@ use Rattle.count_core.specs.Steps.{mark, Does, word_at, holds_at, changed, with_
 use Rattle.count_core.proofs.Edits.{Shuffled, shuffled_exchange, shuffled_without, edit_lone, child_in}
 use Rattle.pool_rule.specs.Views.{View}
 use Rattle.pool_rule.specs.Rules.{holds_of as held_by, world, Among, IsSane, Ruled, Narrow}
-use Rattle.pool_rule.specs.Pools.{Terms, Kept}
-use Rattle.pool_rule.specs.Marks.{Leads, marking, CanChange, StaysLone, marked, KeepsNodes}
+use Rattle.pool_rule.specs.Pools.{Terms, Member, AreBare, IsAlone, AreLone, Kept}
+use Rattle.pool_rule.specs.Marks.{Leads, marking, CanChange, IsLonePath, marked, KeepsNodes}
 use Rattle.pool_rule.proofs.Allowed.{Moved, told}
 use Rattle.pool_rule.proofs.Holds.{child_below, below_child, occurs_without}
-use Rattle.pool_rule.proofs.Pools.{stepped_kept, told_after}
-use Rattle.pool_rule.proofs.Worlds.{at_lt, sane_at, held_at, set_same, world_stepped, word_world, width_world, places_world}
+use Rattle.pool_rule.proofs.Pools.{told_after}
+use Rattle.pool_rule.proofs.Tallies.{tallied_step, same_tally}
+use Rattle.pool_rule.proofs.Worlds.{at_lt, sane_at, held_at, set_same, world_stepped, word_world, width_world, places_world, spares_set}
 use Rattle.pool_rule.proofs.Steps.{low, first_held, does_ruled}
 
 -- ---- what occurs in a tree, and in a row of trees of which one is changed
@@ -247,18 +249,84 @@ module _ {S : Type 0} (k : ℕ) (s : State S View) (id : ℕ) (v : View) (r : Ru
   pub mark_nodes : (root : Node) (path : List ℕ) (cs : List (ℕ × Change)) → CanChange root path cs v → KeepsNodes v.holds (marking root path cs v).holds
   mark_nodes root path cs can = keeps_nodes root path cs v (first_held k s id v r at root can.held) can (sane_at k s.views id v r.sane at).narrow
 
+-- ---- the whole rule
+module _ {S : Type 0} (p : Terms S) (s : State S View) (id : ℕ) (v : View) (r : Kept p s) (at : get_elem? s.views id ≡ some v) (root : Node) (path : List ℕ) (cs : List (ℕ × Change)) (can : CanChange root path cs v) where
+  w : View
+  w = marking root path cs v
+
+  n : ℕ
+  n = number root
+
+  word : ℕ
+  word = get_or s.words (number root) 0
+
+  nodes : KeepsNodes v.holds w.holds
+  unfolding w
+  nodes = mark_nodes p.numbers s id v r.counted at root path cs can
+
+  words_same : set s.words n word ≡ s.words
+  unfolding n word
+  words_same = set_same s.words (number root) 0
+
+  lone_same : w.lone ≡ v.lone
+  unfolding w
+  lone_same = refl
+
+  bare_marked : 0 < v.spare → AreBare (set s.views id w)
+  unfolding w
+  bare_marked worker j u here zero_ = ⊎_elim
+      (λ h. let e : v.spare ≡ u.spare = ap (λ (z : View). z.spare) h.1 in absurd (omega (arith, e, zero_, worker)))
+      (λ h. r.bare j u h.1 zero_)
+      (at_set s.views id j w u here)
+
+  lone_marked : AreLone p.numbers s.words (set s.views id w)
+  lone_marked i j u here h =
+      ⊎_elim
+      (λ q. let a = r.lone id j v at (subst (λ (z : List ℕ). Member j z) lone_same (subst (λ (z : View). Member j z.lone) (sym q.1) h)) in
+      subst (λ (z : ℕ). IsAlone p.numbers s.words (set s.views id w) z j) (sym q.0) (record {
+        low = a.low;
+        one = a.one;
+        apart = λ o y there ne x occurs. ⊎_elim (λ e. absurd (ne e.0)) (λ e. a.apart o y e.1 ne x occurs) (at_set s.views id o w y there);
+      }))
+      (λ q. let a = r.lone i j u q.1 h in record {
+        low = a.low;
+        one = a.one;
+        apart = λ o y there ne x occurs. ⊎_elim
+            (λ e. let was = nodes.numbers x (subst (λ (z : View). Occurs x z.holds) (sym e.1) occurs) in
+            λ same. a.apart id v at (λ f. ne (e.0 ∙ f)) was.0 was.1 (was.2 ∙ same))
+            (λ e. a.apart o y e.1 ne x occurs) (at_set s.views id o w y there);
+      })
+      (at_set s.views id i w u here)
+
+  pub ones_on : IsLonePath root path v → (j : ℕ) → Among j (numbers_on root path) → get_or s.words j 0 ≡ 1
+  ones_on lone j a = (r.lone id j v at (lone j a)).one
+
+  pub marked_kept : (c : List (ℕ × S)) → 0 < v.spare → Ruled p.numbers (stepped s (number root) (get_or s.words (number root) 0) id c (marking root path cs v) keeps)
+      → Kept p (stepped s (number root) (get_or s.words (number root) 0) id c (marking root path cs v) keeps)
+  unfolding w n word
+  marked_kept c worker ruled =
+      let e : get_or (set s.words (number root) (get_or s.words (number root) 0)) p.numbers 0 ≡ get_or s.words p.numbers 0 = ap (λ (z : List ℕ). get_or z p.numbers 0) words_same in
+      record {
+        counted = ruled;
+        workers = omega (arith, spares_set s.views id v (marking root path cs v) at, r.workers);
+        bare = bare_marked worker;
+        lone = subst (λ (z : List ℕ). AreLone p.numbers z (set s.views id (marking root path cs v))) (sym words_same) lone_marked;
+        tallied = tallied_step (get_or s.words p.numbers 0) (get_or (set s.words (number root) (get_or s.words (number root) 0)) p.numbers 0) s.views id v (marking root path cs v)
+            (same_tally (get_or s.words p.numbers 0) v (marking root path cs v) (record { made = refl; ended = refl; counts = refl; joined = refl })) at (omega (arith, e)) r.tallied;
+      }
+
 -- ---- as the pool's call asks for it
 module _ {S : Type 0} (p : Terms S) (slots id : ℕ) (me : Me S View) (worker : 0 < me.0.spare) where
-  pub marks : (root : Node) (path : List ℕ) (cs : List (ℕ × Change)) → CanChange root path cs me.0 → StaysLone p id me.0 root path
+  pub marks : (root : Node) (path : List ℕ) (cs : List (ℕ × Change)) → CanChange root path cs me.0 → IsLonePath root path me.0
       → Allows (Kept p) slots id me (number root) (λ n. n) (marked root path cs (step slots (number root) 0 0 none) me)
   marks root path cs can lone s kept homes at below =
       let k = p.numbers in
       let w = marking root path cs me.0 in
-      let ruled = mark_ruled k s id me.0 kept.counted at root path cs me.1 can (lone s kept at) in
+      let ruled = mark_ruled k s id me.0 kept.counted at root path cs me.1 can (ones_on p s id me.0 kept at root path cs can lone) in
       let moved = told k s id me (w, me.1) w kept.counted at refl refl (mark_sane k s id me.0 kept.counted at root path cs can) in (
         w,
         keeps,
         tt,
-        stepped_kept p s id (number root) (get_or s.words (number root) 0) me.0 w me.1 kept at worker refl ruled,
+        marked_kept p s id me.0 kept at root path cs can me.1 worker ruled,
         told_after p s id (number root) (get_or s.words (number root) 0) me w ruled moved at,
       )

@@ -14,7 +14,7 @@ use Rattle.count_core.specs.Views.{without}
 use Rattle.pool_rule.specs.Views.{View, with_holds}
 use Rattle.pool_rule.specs.Rules.{Among}
 use Rattle.pool_rule.specs.Plays.{Told}
-use Rattle.pool_rule.specs.Pools.{Terms, Kept}
+use Rattle.pool_rule.specs.Pools.{Member}
 
 -- the places lead down from the node, over Branches
 abbrev pub Leads : Node → List ℕ → Type 0
@@ -33,9 +33,9 @@ pub record CanChange (root : Node) (path : List ℕ) (changes : List (ℕ × Cha
   pub fits : FitEach changes (site root path (without (number root) v.holds))
   pub room : length (marking root path changes v).holds ≤ v.room
 
--- whatever others do, the word of each number on the path is 1 while the token is as it is
-abbrev pub StaysLone : {S : Type 0} → Terms S → ℕ → View → Node → List ℕ → Type 0
-StaysLone {S} p id v root path = (s : State S View) → Kept p s → get_elem? s.views id ≡ some v → (n : ℕ) → Among n (numbers_on root path) → slice_index s.words n ≡ 1
+-- each number on the path is a lone number of the token
+abbrev pub IsLonePath : Node → List ℕ → View → Type 0
+IsLonePath root path v = (n : ℕ) → Among n (numbers_on root path) → Member n v.lone
 
 -- what the load of the root's word tells, with which the changes are done
 abbrev pub marked : {S : Type 0} → Node → List ℕ → List (ℕ × Change) → table.Step S → Me S View → ℕ → Me S View → Type 0

@@ -9,12 +9,12 @@ ghost use Rattle.count_core.specs.Steps.{mark, Does};
 ghost use Rattle.pool_rule.specs.Views.{View};
 ghost use Rattle.pool_rule.specs.Rules.{Among, Ruled, world};
 ghost use Rattle.pool_rule.specs.Pools.{Terms, Kept};
-ghost use Rattle.pool_rule.specs.Marks.{marking, CanChange, StaysLone, marked, KeepsNodes};
+ghost use Rattle.pool_rule.specs.Marks.{marking, CanChange, IsLonePath, marked, KeepsNodes};
 
 /// Whatever other threads do meanwhile, a load of the word of a direct hold, with which a worker's changes of a list are
-/// done along a path from it, keeps the rule and tells the worker what it knows then, where the words on the path stay 1.
+/// done along a path from it, keeps the rule and tells the worker what it knows then, where the numbers on the path are lone.
 pub fn marks_keep_the_rule<S>()
-    ensures { (p : Terms S) (slots id : ℕ) (me : Me S View) (root : Node) (path : List ℕ) (changes : List (ℕ × Change)) → 0 < me.0.spare → CanChange root path changes me.0 → StaysLone p id me.0 root path → Allows (Kept p) slots id me (number root) (λ n. n) (marked root path changes (step slots (number root) 0 0 none) me) }
+    ensures { (p : Terms S) (slots id : ℕ) (me : Me S View) (root : Node) (path : List ℕ) (changes : List (ℕ × Change)) → 0 < me.0.spare → CanChange root path changes me.0 → IsLonePath root path me.0 → Allows (Kept p) slots id me (number root) (λ n. n) (marked root path changes (step slots (number root) 0 0 none) me) }
 {}
 
 /// On the world of any table under the rule the changes are the count rule's mark. They bring no number to the token, and
