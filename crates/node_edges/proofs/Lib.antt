@@ -6,3 +6,4 @@ pub mod BodyLaws
 pub mod ExchangeLaws
 pub mod EditLaws
 pub mod LevelLaws
+pub mod WayLaws

@@ -6,3 +6,4 @@ pub mod Text
 pub mod Trees
 pub mod Changes
 pub mod Levels
+pub mod Ways

@@ -1,5 +1,5 @@
-//! Edges: what a node of a cord's tree is, with its text, its shape and its skeleton, and which trees are well formed.
-//! An edge is plain data behind a shared pointer; who holds a node is said by the pool above.
+//! Edges: what a node of a cord's tree is, with its text, its shape and its skeleton, which trees are well formed, and changes
+//! of a tree in place along a path. An edge is plain data behind a shared pointer; who holds a node is said by the pool above.
 #![tactic(auto)]
 
 mod bytes;
@@ -14,6 +14,7 @@ mod laws;
 mod memory;
 #[cfg(test)]
 mod tests;
+mod ways;
 
 pub use change::Change;
 pub use edge::{Body, Edge};
@@ -23,3 +24,4 @@ pub use laws::{
 };
 pub use memory::Memory;
 pub use node_forest::Side;
+pub use ways::{few_edges_wait_on_a_way_down, ways_down_are_short};
