@@ -138,7 +138,7 @@ never_core n [] s o = tt
 never_core n (c ∷ cs) s o = (o.0, never_core c.0 cs (edges.edit c.1 c.0 s.tree s.path s.out) o.1)
 
 -- ---- what the holds weigh
-weighs-first : (f : Node → ℕ) (n : ℕ) (hs : List Node) (e : Node) → first n hs ≡ Some e → sum_by f (without n hs) + f e ≡ sum_by f hs
+pub weighs-first : (f : Node → ℕ) (n : ℕ) (hs : List Node) (e : Node) → first n hs ≡ Some e → sum_by f (without n hs) + f e ≡ sum_by f hs
 weighs-first f n [] e is = absurd (cc)
 weighs-first f n (x ∷ xs) e is =
     dite (ℕ_discrete (number x) n)
@@ -149,7 +149,7 @@ weighs-first f n (x ∷ xs) e is =
     let a : sum_by f (without n (x ∷ xs)) ≡ sum_by f (x ∷ without n xs) = ap (λ (z : List Node). sum_by f z) (without_miss n x xs m) in
     omega (arith, a, r, sum_by-append f (x ∷ []) xs, sum_by-append f (x ∷ []) (without n xs)))
 
-weighs-unpulled : (f : Node → ℕ) (es hs : List Node) → AreFirst es hs → sum_by f (core.unpulled (map number es) hs) + sum_by f es ≡ sum_by f hs
+pub weighs-unpulled : (f : Node → ℕ) (es hs : List Node) → AreFirst es hs → sum_by f (core.unpulled (map number es) hs) + sum_by f es ≡ sum_by f hs
 weighs-unpulled f [] hs are = omega arith
 weighs-unpulled f (e ∷ es) hs are =
     omega (arith, weighs-unpulled f es (without (number e) hs) are.1, weighs-first f (number e) hs e are.0, sum_by-append f (e ∷ []) es)
@@ -160,7 +160,7 @@ weighs-exchange f x t path out hs are =
     let gone = outgoing x.side x.count (children t) in
     omega (arith, sum_by-append f (core.unpulled (map number x.new) hs) gone, sum_by-append f out gone, weighs-unpulled f x.new hs are)
 
-weighs-edit : (f : Node → ℕ) (c : Change) (d : ℕ) (t : Node) (path : List ℕ) (out hs : List Node) → AreFirst (edges.exchange_in c).new hs → edges.FitsAt c d t path
+pub weighs-edit : (f : Node → ℕ) (c : Change) (d : ℕ) (t : Node) (path : List ℕ) (out hs : List Node) → AreFirst (edges.exchange_in c).new hs → edges.FitsAt c d t path
     → sum_by f (core.edit (core_change c (node_at d t path)) d t path hs).holds + (sum_by f (edges.exchange_in c).new + sum_by f out) ≡ sum_by f hs + sum_by f (edges.edit c d t path out).out
 weighs-edit f (Fill more) zero t path out hs are fits = omega arith
 weighs-edit f (Shorten n) zero t path out hs are fits = omega arith

@@ -17,3 +17,4 @@ pub mod Door
 pub mod Giving
 pub mod MarkSteps
 pub mod EdgeMarks
+pub mod EdgeSteps

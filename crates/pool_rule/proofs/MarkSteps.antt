@@ -59,10 +59,10 @@ set_has x (t ∷ ts) zero u l o = occurs_left x (u ∷ []) ts o
 set_has x (t ∷ ts) (suc p) u l o = occurs_right x (t ∷ []) (set ts p u) (set_has x ts p u (omega arith) o)
 
 -- ---- the path after a change
-ones : ℕ → ℕ
+pub ones : ℕ → ℕ
 ones n = 1
 
-leads_lone : (t : Node) (path : List ℕ) → Leads t path → LonePath ones t path
+pub leads_lone : (t : Node) (path : List ℕ) → Leads t path → LonePath ones t path
 unfolding ones
 leads_lone t [] leads = refl
 leads_lone t (p ∷ ps) leads = (refl, leads.0, leads.1, leads_lone (child_of t p) ps leads.2)

@@ -1,5 +1,7 @@
 //! The laws at a type of slots.
-use crate::edge_marks::{edge_changes_are_marks, edge_changes_trade_holds};
+use crate::edge_marks::{
+    edge_changes_are_marks, edge_changes_keep_the_rule, edge_changes_trade_holds,
+};
 use crate::laws::{
     idle_pools_are_empty, passes_keep_the_rule, pools_start_ruled, steps_are_the_count_rules,
     steps_keep_the_rule, tokens_divide, weights_tell_holds,
@@ -17,6 +19,7 @@ fn laws_hold_of_slots_of_a_type(_rt: HostRuntime) {
     weights_tell_holds();
     edge_changes_are_marks();
     edge_changes_trade_holds();
+    edge_changes_keep_the_rule::<Option<u64>>();
     marks_keep_the_rule::<Option<u64>>();
     marks_are_the_count_rules::<Option<u64>>();
 }
