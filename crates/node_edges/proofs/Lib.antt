@@ -7,3 +7,4 @@ pub mod ExchangeLaws
 pub mod EditLaws
 pub mod LevelLaws
 pub mod WayLaws
+pub mod ChangedLaws

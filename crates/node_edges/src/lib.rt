@@ -19,8 +19,8 @@ mod ways;
 pub use change::Change;
 pub use edge::{Body, Edge};
 pub use laws::{
-    branches_join_their_texts, branches_over_trees_are_trees, shapes_follow_edges,
-    texts_are_as_long_as_edges_say,
+    branches_join_their_texts, branches_over_trees_are_trees, changed_nodes_keep_their_kinds,
+    shapes_follow_edges, texts_are_as_long_as_edges_say,
 };
 pub use memory::Memory;
 pub use node_forest::Side;
