@@ -151,7 +151,7 @@ fn edit_below(
         return Ok(());
     }
     edge.unshare(alloc)?;
-    // Nobody else has the body now, so there is one; another answer would be want of memory.
+    // No other edge has the body now, so it is always found.
     let Some(body) = Arc::get_mut(&mut edge.body) else {
         return Err(Memory);
     };
