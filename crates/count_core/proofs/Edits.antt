@@ -3,16 +3,20 @@ use Rattle.std.proofs.Common.{◌≡◌, ℕ, zero, suc, ◌+◌, ◌-◌, ◌<�
 use Rattle.std.specs.Prelude.{Option, Some, None, IsSome, option_to_list}
 use mathlib.Core.Logic.{dite}
 use native.Mathlib.Decide.{ℕ_discrete}
+use Rattle.node_forest.specs.declared.side.Side.{Side}
+use Rattle.node_forest.specs.declared.side.Side.TheVariants.{Front, Back}
 use Rattle.node_forest.specs.Forest.{children}
 use Rattle.node_forest.specs.Label.{Node, number}
 use Rattle.node_forest.specs.Members.{In, Occurs}
 use Rattle.node_forest.specs.Counts.{is, times, first}
+use Rattle.node_forest.specs.Sides.{outgoing, remaining, joined}
 use Rattle.node_forest.proofs.Maps.{trees-forest}
 use Rattle.node_forest.proofs.Members.{in_left, in_right, in_split, root_occurs, occurs_split, occurs_left, occurs_right, child_occurs}
 use Rattle.node_forest.proofs.Counts.{times_append, is_one, is_none, first_hit, first_miss}
 use Rattle.count_core.specs.Sound.{Sound, Parts}
 use Rattle.count_core.specs.Views.{without}
-use Rattle.count_core.specs.Marks.{Side, front, back, Change, resize, exchange, Site, pulled, unpulled, CanPull, outgoing, remaining, joined, edges_after, edit, raised, child_of, FitsAt, FitEach, LonePath, edits}
+use Rattle.node_forest.specs.Paths.{child_of}
+use Rattle.count_core.specs.Marks.{Change, resize, exchange, Site, pulled, unpulled, CanPull, edges_after, edit, raised, FitsAt, FitEach, LonePath, edits}
 use Rattle.count_core.proofs.Counting.{stays, unheld}
 use Rattle.count_core.proofs.Marks.{less, less_is, opens, closes}
 use Rattle.count_core.proofs.Lists.{default_same}
@@ -92,12 +96,12 @@ shuffled_pulled (m ∷ ms) hs can = found (first m hs) refl can.0 (shuffled_pull
         (shuffled_append (t ∷ []) (t ∷ []) (without m hs) (pulled ms (without m hs) ++ unpulled ms (without m hs)) (shuffled_refl (t ∷ [])) later))
 
 shuffled_kids : (side : Side) (count : ℕ) (kids : List Node) → Shuffled kids (remaining side count kids ++ outgoing side count kids)
-shuffled_kids front count kids = shuffled_then kids (take count kids ++ drop count kids) (drop count kids ++ take count kids) (shuffled_along kids (take count kids ++ drop count kids) (sym (take-append-drop count kids))) (shuffled_swap (take count kids) (drop count kids))
-shuffled_kids back count kids = shuffled_along kids (take (length kids - count) kids ++ drop (length kids - count) kids) (sym (take-append-drop (length kids - count) kids))
+shuffled_kids Front count kids = shuffled_then kids (take count kids ++ drop count kids) (drop count kids ++ take count kids) (shuffled_along kids (take count kids ++ drop count kids) (sym (take-append-drop count kids))) (shuffled_swap (take count kids) (drop count kids))
+shuffled_kids Back count kids = shuffled_along kids (take (length kids - count) kids ++ drop (length kids - count) kids) (sym (take-append-drop (length kids - count) kids))
 
 pub shuffled_joined : (side : Side) (new kids : List Node) → Shuffled (new ++ kids) (joined side new kids)
-shuffled_joined front new kids = shuffled_refl (new ++ kids)
-shuffled_joined back new kids = shuffled_swap new kids
+shuffled_joined Front new kids = shuffled_refl (new ++ kids)
+shuffled_joined Back new kids = shuffled_swap new kids
 
 -- four lists, the middle two exchanged
 pub shuffled_middle : (p u r o : List Node) → Shuffled ((p ++ u) ++ (r ++ o)) ((u ++ o) ++ (p ++ r))
@@ -287,10 +291,10 @@ pub edit_lone : (c : Change) (d : ℕ) (t : Node) (path : List ℕ) (hs : List N
 edit_lone (resize long bytes more) zero t [] hs word lone fits = lone
 edit_lone (resize long bytes more) zero t (p ∷ ps) hs word lone fits = absurd (let e = fits.0.ends in cc)
 edit_lone (exchange side count ms) zero t [] hs word lone fits = lone
-edit_lone (exchange front count ms) zero t (p ∷ ps) hs word lone fits =
+edit_lone (exchange Front count ms) zero t (p ∷ ps) hs word lone fits =
     let new = pulled ms hs in
     let kids = children t in
-    let u = (edit (exchange front count ms) zero t (p ∷ ps) hs).tree in
+    let u = (edit (exchange Front count ms) zero t (p ∷ ps) hs).tree in
     let is = trees-forest (new ++ drop count kids) in
     let k = kept_front new kids count p u t fits.0.keeps.0 fits.0.keeps.1 in (
       lone.0,
@@ -298,10 +302,10 @@ edit_lone (exchange front count ms) zero t (p ∷ ps) hs word lone fits =
       subst (λ (z : List Node). p - count + length new < length z) (sym is) k.0,
       subst (λ (z : Node). LonePath word z ps) (sym (ap (λ (z : List Node). get_or z (p - count + length new) u) is ∙ k.1)) lone.3,
     )
-edit_lone (exchange back count ms) zero t (p ∷ ps) hs word lone fits =
+edit_lone (exchange Back count ms) zero t (p ∷ ps) hs word lone fits =
     let new = pulled ms hs in
     let kids = children t in
-    let u = (edit (exchange back count ms) zero t (p ∷ ps) hs).tree in
+    let u = (edit (exchange Back count ms) zero t (p ∷ ps) hs).tree in
     let is = trees-forest (take (length kids - count) kids ++ new) in
     let k = kept_back new kids count p u t fits.0.keeps in (
       lone.0,

@@ -1,11 +1,13 @@
 -- Changes on a path move whole trees between its edges and the direct holds, and keep the numbers on the path.
 use Rattle.std.proofs.Common.{◌≡◌, ◌≢◌, ℕ, zero, suc, ◌+◌, ◌-◌, ◌<◌, ◌≤◌, List, [], ◌∷◌, ◌++◌, length, get_or, set, take, drop, refl, sym, ◌∙◌, ap, arith, append_assoc, take-append-drop, get_or-set_same, get_or-set_other}
 use Rattle.std.specs.Prelude.{Option, Some, None}
+use Rattle.node_forest.specs.declared.side.Side.TheVariants.{Front, Back}
 use Rattle.node_forest.specs.Forest.{children}
 use Rattle.node_forest.specs.Label.{Node, number}
 use Rattle.node_forest.specs.Counts.{first}
 use Rattle.node_forest.proofs.Maps.{trees-forest}
-use Rattle.count_core.specs.Marks.{front, back, Change, resize, exchange, Site, site, pulled, unpulled, CanPull, edges_after, edit, raised, child_of, FitsAt, FitEach, LonePath, FitsRoot, edits, edited_holds, all_but, beside, loose, numbers_on}
+use Rattle.node_forest.specs.Paths.{child_of}
+use Rattle.count_core.specs.Marks.{Change, resize, exchange, Site, site, pulled, unpulled, CanPull, edges_after, edit, raised, FitsAt, FitEach, LonePath, FitsRoot, edits, edited_holds, all_but, beside, loose, numbers_on}
 use Rattle.count_core.specs.Steps.{State, mark, after, holds_at, word_at, CanStep}
 use Rattle.count_core.specs.MarkLaws.{MovesWholeTrees}
 use Rattle.count_core.specs.Views.{without}
@@ -74,11 +76,11 @@ edit_loose (exchange side count ms) zero t [] hs word lone fits =
     let s' = edit (exchange side count ms) zero t [] hs in
     shuffled_then (hs ++ children t) (s'.holds ++ edges_after side count ms t hs) (loose s') (shuffled_exchange side count ms t hs fits.0.pulls)
     (shuffled_along (s'.holds ++ edges_after side count ms t hs) (loose s') (ap (λ (z : List Node). s'.holds ++ z) (sym (trees-forest (edges_after side count ms t hs)))))
-edit_loose (exchange front count ms) zero t (p ∷ ps) hs word lone fits =
-    let s' = edit (exchange front count ms) zero t (p ∷ ps) hs in
+edit_loose (exchange Front count ms) zero t (p ∷ ps) hs word lone fits =
+    let s' = edit (exchange Front count ms) zero t (p ∷ ps) hs in
     let kids = children t in
     let new = pulled ms hs in
-    let e = edges_after front count ms t hs in
+    let e = edges_after Front count ms t hs in
     let place = p - count + length new in
     let is = trees-forest e in
     let k = kept_front new kids count p s'.tree t fits.0.keeps.0 fits.0.keeps.1 in
@@ -86,11 +88,11 @@ edit_loose (exchange front count ms) zero t (p ∷ ps) hs word lone fits =
     shuffled_then (hs ++ (all_but p kids ++ beside (child_of t p) ps)) (s'.holds ++ (all_but place e ++ beside (child_of t p) ps)) (loose s')
     (with_more hs (all_but p kids) s'.holds (all_but place e) (beside (child_of t p) ps) (exchanged_front ms hs kids count p fits.0.pulls fits.0.keeps.0 fits.0.keeps.1))
     (shuffled_along (s'.holds ++ (all_but place e ++ beside (child_of t p) ps)) (loose s') (λ i. s'.holds ++ (all_but place (sym is i) ++ beside (sym child i) ps)))
-edit_loose (exchange back count ms) zero t (p ∷ ps) hs word lone fits =
-    let s' = edit (exchange back count ms) zero t (p ∷ ps) hs in
+edit_loose (exchange Back count ms) zero t (p ∷ ps) hs word lone fits =
+    let s' = edit (exchange Back count ms) zero t (p ∷ ps) hs in
     let kids = children t in
     let new = pulled ms hs in
-    let e = edges_after back count ms t hs in
+    let e = edges_after Back count ms t hs in
     let is = trees-forest e in
     let k = kept_back new kids count p s'.tree t fits.0.keeps in
     let child : child_of s'.tree p ≡ child_of t p = ap (λ (z : List Node). get_or z p s'.tree) is ∙ k.1 in
@@ -115,14 +117,14 @@ edit_numbers : (c : Change) (d : ℕ) (t : Node) (path : List ℕ) (hs : List No
 edit_numbers (resize long bytes more) zero t [] hs word lone fits = refl
 edit_numbers (resize long bytes more) zero t (p ∷ ps) hs word lone fits = absurd (let e = fits.0.ends in cc)
 edit_numbers (exchange side count ms) zero t [] hs word lone fits = refl
-edit_numbers (exchange front count ms) zero t (p ∷ ps) hs word lone fits =
-    let s' = edit (exchange front count ms) zero t (p ∷ ps) hs in
+edit_numbers (exchange Front count ms) zero t (p ∷ ps) hs word lone fits =
+    let s' = edit (exchange Front count ms) zero t (p ∷ ps) hs in
     let k = kept_front (pulled ms hs) (children t) count p s'.tree t fits.0.keeps.0 fits.0.keeps.1 in
-    ap (λ (z : Node). number t ∷ numbers_on z ps) (ap (λ (z : List Node). get_or z (p - count + length (pulled ms hs)) s'.tree) (trees-forest (edges_after front count ms t hs)) ∙ k.1)
-edit_numbers (exchange back count ms) zero t (p ∷ ps) hs word lone fits =
-    let s' = edit (exchange back count ms) zero t (p ∷ ps) hs in
+    ap (λ (z : Node). number t ∷ numbers_on z ps) (ap (λ (z : List Node). get_or z (p - count + length (pulled ms hs)) s'.tree) (trees-forest (edges_after Front count ms t hs)) ∙ k.1)
+edit_numbers (exchange Back count ms) zero t (p ∷ ps) hs word lone fits =
+    let s' = edit (exchange Back count ms) zero t (p ∷ ps) hs in
     let k = kept_back (pulled ms hs) (children t) count p s'.tree t fits.0.keeps in
-    ap (λ (z : Node). number t ∷ numbers_on z ps) (ap (λ (z : List Node). get_or z p s'.tree) (trees-forest (edges_after back count ms t hs)) ∙ k.1)
+    ap (λ (z : Node). number t ∷ numbers_on z ps) (ap (λ (z : List Node). get_or z p s'.tree) (trees-forest (edges_after Back count ms t hs)) ∙ k.1)
 edit_numbers c (suc d) t [] hs word lone fits = absurd fits
 edit_numbers c (suc d) t (p ∷ ps) hs word lone fits =
     let s' = edit c d (child_of t p) ps hs in

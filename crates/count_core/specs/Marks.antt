@@ -1,15 +1,13 @@
 -- Changes in place along a path: what one change does to a node and the direct holds beside its tree, where it fits, and a list of them.
-use Rattle.std.specs.Prelude.{◌≡◌, ℕ, zero, suc, ◌+◌, ◌-◌, ◌^◌, ◌<◌, ◌≤◌, List, [], ◌∷◌, ◌++◌, length, take, drop, slice_index_or, slice_set, Option, Some, None, IsSome, option_to_list}
+use Rattle.std.specs.Prelude.{◌≡◌, ℕ, zero, suc, ◌+◌, ◌^◌, ◌<◌, ◌≤◌, List, [], ◌∷◌, ◌++◌, length, take, drop, slice_set, Option, Some, None, IsSome, option_to_list}
 use Rattle.node_forest.specs.declared.kind.Kind.TheVariants.{Flat, Branch}
+use Rattle.node_forest.specs.declared.side.Side.{Side}
 use Rattle.node_forest.specs.Forest.{forest, children}
 use Rattle.node_forest.specs.Label.{Label, Node, number}
 use Rattle.node_forest.specs.Counts.{first}
+use Rattle.node_forest.specs.Sides.{outgoing, remaining, joined, KeepsChild, path_after}
+use Rattle.node_forest.specs.Paths.{child_of, AreShort}
 use Rattle.count_core.specs.Views.{without}
-
--- the first edges of a branch, or its last
-pub data Side : Type 0 where
-  front : Side
-  back : Side
 
 -- a flat gets a length, bytes and room; or so many edges at a side of a branch become direct holds, and then direct holds with these numbers
 -- become its edges there
@@ -41,30 +39,6 @@ CanPull [] hs = Unit {0}
 CanPull (m ∷ ms) hs = IsSome (first m hs) × CanPull ms (without m hs)
 
 -- ---- the edges of a branch
-abbrev pub outgoing : Side → ℕ → List Node → List Node
-outgoing front count kids = take count kids
-outgoing back count kids = drop (length kids - count) kids
-
-abbrev pub remaining : Side → ℕ → List Node → List Node
-remaining front count kids = drop count kids
-remaining back count kids = take (length kids - count) kids
-
-abbrev pub joined : Side → List Node → List Node → List Node
-joined front new kids = new ++ kids
-joined back new kids = kids ++ new
-
--- the path's child isn't among the edges that go
-abbrev pub KeepsChild : Side → ℕ → ℕ → List ℕ → Type 0
-KeepsChild side count edges [] = Unit {0}
-KeepsChild front count edges (p ∷ ps) = (count ≤ p) × (p < edges)
-KeepsChild back count edges (p ∷ ps) = p < edges - count
-
--- the path, whose child may have another place now
-abbrev pub path_after : Side → ℕ → ℕ → List ℕ → List ℕ
-path_after side count new [] = []
-path_after front count new (p ∷ ps) = (p - count + new) ∷ ps
-path_after back count new (p ∷ ps) = p ∷ ps
-
 abbrev pub total : List Node → ℕ
 total [] = 0
 total (t ∷ ts) = t.0.length + total ts
@@ -75,10 +49,6 @@ resized l long bytes more = record { number = l.number; kind = l.kind; length = 
 -- a branch with these edges, as long as they are together
 abbrev pub branch_of : Label → List Node → Node
 branch_of l kids = (resized l (total kids) l.bytes l.more, forest kids)
-
--- the child at a place
-abbrev pub child_of : Node → ℕ → Node
-child_of t p = slice_index_or (children t) p t
 
 -- ---- a change at the node itself
 abbrev pub edges_after : Side → ℕ → List ℕ → Node → List Node → List Node
@@ -121,11 +91,6 @@ edit c zero t path hs = edited c t path hs
 edit c (suc d) t [] hs = record { tree = t; path = []; holds = hs }
 edit c (suc d) t (p ∷ ps) hs = raised t p (edit c d (child_of t p) ps hs)
 
--- the nodes of the path below have lengths below the limit
-abbrev pub AreShort : Node → List ℕ → Type 0
-AreShort t [] = Unit {0}
-AreShort t (p ∷ ps) = ((child_of t p).0.length < 2 ^ 63) × AreShort (child_of t p) ps
-
 abbrev pub FitsAt : Change → ℕ → Node → List ℕ → List Node → Type 0
 FitsAt c zero t path hs = Fits c t path hs × AreShort t path
 FitsAt c (suc d) t [] hs = ⊥
@@ -140,11 +105,6 @@ edits (c ∷ cs) s = edits cs (edit c.1 c.0 s.tree s.path s.holds)
 abbrev pub FitEach : List (ℕ × Change) → Site → Type 0
 FitEach [] s = Unit {0}
 FitEach (c ∷ cs) s = FitsAt c.1 c.0 s.tree s.path s.holds × FitEach cs (edit c.1 c.0 s.tree s.path s.holds)
-
--- no change lies deeper than the one before it, and the first no deeper than this
-abbrev pub NeverDeeper : ℕ → List (ℕ × Change) → Type 0
-NeverDeeper depth [] = Unit {0}
-NeverDeeper depth (c ∷ cs) = (c.0 ≤ depth) × NeverDeeper c.0 cs
 
 -- the places lead down from the node: above the end each node is a branch that has the place, and the word of each is 1
 abbrev pub LonePath : (ℕ → ℕ) → Node → List ℕ → Type 0

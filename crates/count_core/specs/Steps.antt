@@ -3,7 +3,8 @@ use Rattle.std.specs.Prelude.{◌≡◌, ◌≢◌, ℕ, ◌+◌, ◌-◌, ◌^�
 use Rattle.node_forest.specs.Forest.{children, nodes_of}
 use Rattle.node_forest.specs.Label.{Node, number}
 use Rattle.node_forest.specs.Counts.{first}
-use Rattle.count_core.specs.Marks.{Change, NeverDeeper, FitsRoot, edited_holds}
+use Rattle.node_forest.specs.Paths.{NeverDeeper}
+use Rattle.count_core.specs.Marks.{Change, FitsRoot, edited_holds}
 use Rattle.count_core.specs.Views.{without, without_all, AreHeld, passed_on, AreDifferent, AreBelow, moving, staying}
 
 -- the words of all numbers, the word of live passes, and what each token holds directly

@@ -1,29 +1,22 @@
 -- What contracts see of a world and of a step: those of the step relation.
 use Rattle.std.specs.Prelude.{ℕ, List, [], ◌∷◌}
-use Rattle.count_core.specs.Marks.{Change, resize, exchange, front, back}
-use Rattle.count_core.specs.Marks as the_marks
+use Rattle.count_core.specs.Marks.{Change, resize, exchange}
 use Rattle.count_core.specs.Steps.{State, Step, take, share, leave, look, mark, split, merge, counted, uncounted, home}
 use Rattle.count_core.specs.declared.world.World.{World}
 use Rattle.count_core.specs.declared.step.Step as written
 use Rattle.count_core.specs.declared.step.Step.TheVariants as the
-use Rattle.count_core.specs.declared.change.Side.{Side}
-use Rattle.count_core.specs.declared.change.Side.TheVariants.{Front, Back}
 use Rattle.count_core.specs.declared.change.TreeChange.{TreeChange}
 use Rattle.count_core.specs.declared.change.TreeChange.TheVariants.{Length, Add, Drop, Swap}
 
 abbrev pub state_of : World → State
 state_of w = record { words = w.words.items; live = w.live; views = w.views.items }
 
-abbrev pub side_of : Side → the_marks.Side
-side_of Front = front
-side_of Back = back
-
 -- a tree here has no bytes, so a flat's new length is all of its change
 abbrev pub change_of : TreeChange → Change
 change_of (Length long) = resize long [] 0
-change_of (Add side numbers) = exchange (side_of side) 0 numbers.items
-change_of (Drop side count) = exchange (side_of side) count []
-change_of (Swap side number) = exchange (side_of side) 1 (number ∷ [])
+change_of (Add side numbers) = exchange side 0 numbers.items
+change_of (Drop side count) = exchange side count []
+change_of (Swap side number) = exchange side 1 (number ∷ [])
 
 abbrev pub changes_of : List (ℕ × TreeChange) → List (ℕ × Change)
 changes_of [] = []

@@ -1,11 +1,5 @@
 //! Changes of a node in place.
-
-/// The first edges of a branch, or its last.
-#[derive(Clone, Copy, Debug, PartialEq, Eq)]
-pub enum Side {
-    Front,
-    Back,
-}
+use node_forest::Side;
 
 /// A change of one node on a lone path. The numbers are those of direct holds other than the root.
 #[derive(Debug, Drop)]

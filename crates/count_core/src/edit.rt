@@ -1,14 +1,16 @@
 //! Changes in place on a copy of a tree and of the direct holds beside it.
 ghost use Rattle.std.specs.Prelude.{◌≡◌, ℕ, ◌+◌, ◌-◌, ◌^◌, ◌<◌, ◌≤◌, ◌↔◌, List, [], ◌∷◌, ◌++◌, length, slice_index, slice_set, IsTrue, IfOk, IfSome, OnOk, OnErr, MatchOption};
 ghost use Rattle.node_forest.specs.Label.{Node};
-ghost use Rattle.count_core.specs.Marks.{exchange, resized, FitsFlat, edited, edit, edits, holds_of, total, Fits, FitsBranch, FitsAt, FitEach, AreShort, NeverDeeper, LonePath, joined, remaining, outgoing, KeepsChild, path_after, child_of, site};
-ghost use Rattle.count_core.specs.Terms.{change_of, changes_of, side_of};
+ghost use Rattle.node_forest.specs.Sides.{outgoing, remaining, joined, KeepsChild, path_after};
+ghost use Rattle.node_forest.specs.Paths.{AreShort, NeverDeeper, child_of};
+ghost use Rattle.count_core.specs.Marks.{exchange, resized, FitsFlat, edited, edit, edits, holds_of, total, Fits, FitsBranch, FitsAt, FitEach, LonePath, site};
+ghost use Rattle.count_core.specs.Terms.{change_of, changes_of};
 
-use crate::change::{Side, TreeChange};
+use crate::change::TreeChange;
 use crate::memory::Memory;
 use crate::tree::Tree;
 use crate::view::View;
-use node_forest::Kind;
+use node_forest::{Kind, Side};
 use std::alloc::Global;
 use std::mem;
 
@@ -109,7 +111,7 @@ fn child_at(tree: &Tree, place: usize) -> &Tree
 
 /// Whether the path's child isn't among the edges that go.
 fn keeps_child(side: Side, count: usize, edges: usize, path: &[usize]) -> bool
-    ensures { IsTrue result ↔ KeepsChild (side_of side) count edges path.now }
+    ensures { IsTrue result ↔ KeepsChild side count edges path.now }
 {
     let Some((place, _)) = path.split_first() else {
         return true;
@@ -128,7 +130,7 @@ fn exchanged(
     count: usize,
 ) -> Result<(Vec<Tree>, Vec<Tree>), Memory>
     requires { count ≤ length old.items }
-    ensures { IfOk result (λ lists. (lists.0.items ≡ joined (side_of side) new.items (remaining (side_of side) count old.items)) × (lists.1.items ≡ outgoing (side_of side) count old.items)) }
+    ensures { IfOk result (λ lists. (lists.0.items ≡ joined side new.items (remaining side count old.items)) × (lists.1.items ≡ outgoing side count old.items)) }
 {
     match side {
         Side::Front => {
@@ -156,7 +158,7 @@ fn exchange(
     count: usize,
     numbers: &[u32],
 ) -> Result<Option<usize>, Memory>
-    ensures { IfOk result (λ done. MatchOption done (FitsBranch (side_of side) count numbers.now tree.old path.now holds.old → ⊥) (λ place. FitsBranch (side_of side) count numbers.now tree.old path.now holds.old × (site tree.new (slice_set path.now 0 place) holds.new ≡ edited (exchange (side_of side) count numbers.now) tree.old path.now holds.old))) }
+    ensures { IfOk result (λ done. MatchOption done (FitsBranch side count numbers.now tree.old path.now holds.old → ⊥) (λ place. FitsBranch side count numbers.now tree.old path.now holds.old × (site tree.new (slice_set path.now 0 place) holds.new ≡ edited (exchange side count numbers.now) tree.old path.now holds.old))) }
 {
     let edges = tree.children.len();
     if !is_branch(tree) || count > edges || !keeps_child(side, count, edges, path) {
@@ -183,9 +185,9 @@ fn exchange(
 
 /// The place of the path's child after so many edges went at the side and so many came.
 fn new_place(side: Side, count: usize, edges: usize, new: usize, path: &[usize]) -> usize
-    requires keeps { KeepsChild (side_of side) count edges path.now }
+    requires keeps { KeepsChild side count edges path.now }
     requires few { edges + new < 2 ^ 64 }
-    ensures { slice_set path.now 0 result ≡ path_after (side_of side) count new path.now }
+    ensures { slice_set path.now 0 result ≡ path_after side count new path.now }
 {
     let Some((place, _)) = path.split_first() else {
         return 0;

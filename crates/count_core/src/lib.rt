@@ -14,13 +14,13 @@ mod tree;
 mod view;
 mod world;
 
-pub use change::{Side, TreeChange};
+pub use change::TreeChange;
 pub use laws::{
     every_run_keeps_counts, lone_paths_exclude_others, marks_move_whole_trees,
     one_step_keeps_counts, takes_and_returns_alternate,
 };
 pub use memory::Memory;
-pub use node_forest::Kind;
+pub use node_forest::{Kind, Side};
 pub use step::Step;
 pub use tree::Tree;
 pub use view::View;

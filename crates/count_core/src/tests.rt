@@ -1,11 +1,11 @@
 //! Steps on small worlds, by their answers and their words.
-use crate::change::{Side, TreeChange};
+use crate::change::TreeChange;
 use crate::memory::Memory;
 use crate::step::Step;
 use crate::tree::Tree;
 use crate::view::View;
 use crate::world::World;
-use node_forest::Kind;
+use node_forest::{Kind, Side};
 use rand_core::utils::NextWord;
 use rand_pcg::Pcg32;
 use std::alloc::Global;

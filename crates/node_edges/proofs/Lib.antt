@@ -3,3 +3,8 @@ pub mod EdgeLaws
 pub mod TreeLaws
 pub mod TextLaws
 pub mod BodyLaws
+pub mod ExchangeLaws
+pub mod EditLaws
+pub mod LevelLaws
+pub mod WayLaws
+pub mod ChangedLaws

@@ -1,7 +1,7 @@
 -- What contracts see of an edge: a node, from the edge's number, its length and its body.
 use Rattle.std.specs.Prelude.{◌≡◌, ℕ, ◌^◌, ◌<◌, ◌≤◌, List, [], ◌∷◌, length, sum_by, Some, None}
 use Rattle.node_forest.specs.declared.kind.Kind.TheVariants as kinds
-use Rattle.node_forest.specs.Forest.{forest}
+use Rattle.node_forest.specs.Forest.{empty, forest}
 use Rattle.node_forest.specs.Label.{Label, Node}
 use Rattle.node_edges.specs.declared.edge.Body.{Body}
 use Rattle.node_edges.specs.declared.edge.Body.TheVariants.{Flat, External, Part, Sum, Branch}
@@ -44,6 +44,14 @@ abbrev pub HasFewEdges : Body → Type 0
 HasFewEdges (Branch h es) = (0 < length es.items) × (length es.items ≤ 6)
 HasFewEdges _ = Unit {0}
 
+-- the node of a flat with these bytes and this room
+abbrev pub flat_node : ℕ → List ℕ → ℕ → Node
+flat_node n bytes room = (record { number = n; kind = kinds.Flat; length = length bytes; bytes = bytes; more = room }, empty)
+
+-- the node of a Branch over these edges
+abbrev pub branch_node : ℕ → ℕ → List Node → Node
+branch_node n h es = (record { number = n; kind = kinds.Branch; length = sum_by (λ e. e.0.length) es; bytes = []; more = h }, forest es)
+
 -- what may be a node's body
 pub record IsBody (b : Body) : Type 0 where
   pub small : body_length b < 2 ^ 63
@@ -71,3 +79,8 @@ pub record IsBranchOf (h : ℕ) (es : List Node) (e : Node) : Type 0 where
 -- the same under another number
 abbrev pub renumbered : ℕ → Node → Node
 renumbered n t = (record { number = n; kind = t.0.kind; length = t.0.length; bytes = t.0.bytes; more = t.0.more }, t.1)
+
+-- b says the same of its node as a
+pub record IsCopy (a b : Body) : Type 0 where
+  pub same : (n l : ℕ) → node_with n l b ≡ node_with n l a
+  pub made : (l : ℕ) → IsMade l a → IsMade l b

@@ -4,3 +4,6 @@ pub mod Falls
 pub mod Shape
 pub mod Text
 pub mod Trees
+pub mod Changes
+pub mod Levels
+pub mod Ways

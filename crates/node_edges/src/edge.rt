@@ -15,8 +15,8 @@ use std::sync::Arc;
 #[derive(Drop)]
 pub struct Edge {
     number: u32,
-    length: u64,
-    body: Arc<Body>,
+    pub(crate) length: u64,
+    pub(crate) body: Arc<Body>,
 }
 
 /// The kinds of nodes (`cord_internal.h`, `cord_rep_btree.h`).
@@ -176,7 +176,7 @@ impl Body {
 }
 
 /// The lengths of the edges together.
-fn total(edges: &[Edge]) -> u64
+pub(crate) fn total(edges: &[Edge]) -> u64
     requires { sum_by (λ e. e.0.length) edges.now < 2 ^ 63 }
     ensures { result ≡ sum_by (λ e. e.0.length) edges.now }
 {

@@ -1,12 +1,14 @@
 //! What the definitions promise, of every tree.
 ghost use Rattle.std.specs.Prelude.{◌≡◌, ℕ, suc, ◌<◌, ◌≤◌, List, length, map, All};
 ghost use Rattle.std.specs.List.{flat_map};
-ghost use Rattle.node_forest.specs.Forest.{children};
+ghost use Rattle.node_forest.specs.declared.kind.Kind.TheVariants.{Flat};
+ghost use Rattle.node_forest.specs.Forest.{children, map_forest};
 ghost use Rattle.node_forest.specs.Label.{Node};
 ghost use Rattle.node_edges.specs.Body.{IsBranchOf};
+ghost use Rattle.node_edges.specs.Changes.{with_bytes, with_edges};
 ghost use Rattle.node_edges.specs.Shape.{level};
 ghost use Rattle.node_edges.specs.Text.{text, data_edges_at};
-ghost use Rattle.node_edges.specs.Trees.{shape_of, skeleton_of, IsTreeAt, IsWellFormed};
+ghost use Rattle.node_edges.specs.Trees.{form_of, shape_of, skeleton_of, IsTreeAt, IsWellFormed};
 
 /// The text of a well formed tree has as many bytes as its root says, and so has each Branch and data edge.
 pub fn texts_are_as_long_as_edges_say()
@@ -30,4 +32,12 @@ pub fn shapes_follow_edges()
 pub fn branches_over_trees_are_trees()
     ensures made { (e : Node) (h : ℕ) (es : List Node) → IsBranchOf h es e → 0 < length es → length es ≤ 6 → All (IsTreeAt h) es → IsTreeAt (suc h) e }
     ensures opened { (l : ℕ) (e : Node) → IsTreeAt (suc l) e → All (IsTreeAt l) (children e) }
+{}
+
+/// A Branch with other edges is a Branch of these, of its height, and a flat with other bytes has these as its text, and as
+/// much room as is said.
+pub fn changed_nodes_keep_their_kinds()
+    ensures edges { (h : ℕ) (es new : List Node) (t : Node) → IsBranchOf h es t → IsBranchOf h new (with_edges new t) }
+    ensures text { (t : Node) (l room : ℕ) (bytes : List ℕ) → t.0.kind ≡ Flat → text (with_bytes l bytes room t) ≡ bytes }
+    ensures shape { (t : Node) (l room : ℕ) (bytes : List ℕ) → t.0.kind ≡ Flat → shape_of (with_bytes l bytes room t) ≡ (record { kind = Flat; length = l; more = room }, map_forest form_of t.1) }
 {}

@@ -4,3 +4,5 @@ pub mod Label
 pub mod Members
 pub mod Counts
 pub mod Codes
+pub mod Sides
+pub mod Paths

@@ -78,7 +78,7 @@ place_of n i t (x ∷ xs) e =
       stay = ap (λ (b : Bool). skip_if b x (staying (p ∷ []) (i + 1) xs)) (among_other i p apart) ∙ (ap (λ (z : List Node). x ∷ z) r.stay ∙ sym (without_miss n x xs miss));
     })
 
-length-without : (t : Node) (hs : List Node) → In t hs → length (without (number t) hs) + 1 ≡ length hs
+pub length-without : (t : Node) (hs : List Node) → In t hs → length (without (number t) hs) + 1 ≡ length hs
 length-without t [] h = absurd h
 length-without t (x ∷ xs) h =
     dite (ℕ_discrete (number x) (number t))

@@ -8,5 +8,13 @@ pub mod Tokens
 pub mod Hands
 pub mod Ends
 pub mod Passes
+pub mod Tallies
+pub mod Alone
+pub mod Pools
+pub mod Calls
 pub mod Trades
 pub mod Door
+pub mod Giving
+pub mod MarkSteps
+pub mod EdgeMarks
+pub mod EdgeSteps

@@ -12,14 +12,13 @@ use Rattle.count_core.specs.Worlds.{IsSound}
 use Rattle.count_core.proofs.Moves.{step_sound}
 use Rattle.pool_rule.specs.Views.{View, blank, counting, counting_below, counting_over, ending, undoing, narrower, part_of, parting, empty_pass}
 use Rattle.pool_rule.specs.Rules.{holds_of, world, passes, overs, Among, IsTaken, IsSane, Ruled}
-use Rattle.pool_rule.specs.Plays.{Told}
 use Rattle.pool_rule.proofs.Worlds.{rooms_set, passes_set, overs_set, spares_set, sane_set, sane_at}
 use Rattle.pool_rule.proofs.Taken.{taken_set, full_set, taken_longer, full_longer}
 use Rattle.pool_rule.proofs.Steps.{core_steps, live_low}
-use Rattle.pool_rule.proofs.Allowed.{told}
+use Rattle.pool_rule.proofs.Allowed.{Moved, told}
 use Rattle.pool_rule.proofs.Tokens.{rooms-append, passes-append, overs-append, spares-append, sane_append, split_does}
 
-passes_le : (views : List View) (id : ℕ) (v : View) → get_elem? views id ≡ some v → v.passes ≤ passes views
+pub passes_le : (views : List View) (id : ℕ) (v : View) → get_elem? views id ≡ some v → v.passes ≤ passes views
 passes_le views id v at = let a = passes_set views id v (blank 0 0 0 0) at in omega arith
 
 module _ {S : Type 0} (k : ℕ) (s : State S View) (id : ℕ) (v : View) (r : Ruled k s) (at : get_elem? s.views id ≡ some v) where
@@ -46,7 +45,7 @@ module _ {S : Type 0} (k : ℕ) (s : State S View) (id : ℕ) (v : View) (r : Ru
 
 module _ {S : Type 0} (k : ℕ) where
   -- a pass is counted; where the limit was reached it is to be taken back
-  pub counts_allowed : (slots id : ℕ) (me : Me S View) → me.0.over < me.0.spare → Allows (Ruled k) slots id me k (λ n. (n + 1) % 2 ^ 64) (λ n m'. Told (counting n me.0) me m')
+  pub counts_allowed : (slots id : ℕ) (me : Me S View) → me.0.over < me.0.spare → Allows (Ruled k) slots id me k (λ n. (n + 1) % 2 ^ 64) (λ n m'. Moved (counting n me.0) me m')
   counts_allowed slots id me less s r _ at _ = go (nat_lt n me.0.limit) refl
     where
       n : ℕ
@@ -59,9 +58,9 @@ module _ {S : Type 0} (k : ℕ) where
       up = let a = live_low k s id me.0 r at in omega arith
 
       go : (b : Bool) → nat_lt n me.0.limit ≡ b
-          → (w : View) × (a : Rattle.atomic_table.specs.Table.Act S) × Rattle.atomic_table.specs.Table.Valid s.homes me.1 a × Ruled k (stepped s k ((n + 1) % 2 ^ 64) id me.1 w a) × Told (counting n me.0) me (w, Rattle.atomic_table.specs.Table.carried_after me.1 a)
+          → (w : View) × (a : Rattle.atomic_table.specs.Table.Act S) × Rattle.atomic_table.specs.Table.Valid s.homes me.1 a × Ruled k (stepped s k ((n + 1) % 2 ^ 64) id me.1 w a) × Moved (counting n me.0) me (w, Rattle.atomic_table.specs.Table.carried_after me.1 a)
       go true e =
-          let w : View = counting_below me.0 in
+          let w : View = counting_below n me.0 in
           let one = mine.roomy in
           let lim = mine.limited in
           let below = ltb-true n me.0.limit e in
@@ -69,21 +68,21 @@ module _ {S : Type 0} (k : ℕ) where
           let sane : IsSane k w = record { size = mine.size; roomy = omega arith; narrow = mine.narrow; limited = mine.limited; fewer = mine.fewer } in
           let ruled : Ruled k (stepped s k (n + 1) id me.1 w keeps) =
           live_ruled k s id me.0 r at (counted id) (n + 1) w me.1 ((core_steps k s id me.0 r at me.1).counted w refl (omega arith)) sane refl refl (omega arith) (omega arith) refl (λ o q. omega arith) in
-          let is : w ≡ counting n me.0 = ap (λ (b : Bool). if b then counting_below me.0 else counting_over me.0) (sym e) in
-          (w, keeps, tt, subst (λ (z : ℕ). Ruled k (stepped s k z id me.1 w keeps)) (sym up) ruled, subst (λ (z : View). Told z me (w, me.1)) is (told k s id me (w, me.1) w r at refl refl sane))
+          let is : w ≡ counting n me.0 = ap (λ (b : Bool). if b then counting_below n me.0 else counting_over n me.0) (sym e) in
+          (w, keeps, tt, subst (λ (z : ℕ). Ruled k (stepped s k z id me.1 w keeps)) (sym up) ruled, subst (λ (z : View). Moved z me (w, me.1)) is (told k s id me (w, me.1) w r at refl refl sane))
       go false e =
-          let w : View = counting_over me.0 in
+          let w : View = counting_over n me.0 in
           let one = mine.roomy in
           let low = r.low in
           let few = live_low k s id me.0 r at in
           let sane : IsSane k w = record { size = mine.size; roomy = omega arith; narrow = mine.narrow; limited = mine.limited; fewer = omega arith } in
           let ruled : Ruled k (stepped s k (n + 1) id me.1 w keeps) =
           live_ruled k s id me.0 r at (counted id) (n + 1) w me.1 ((core_steps k s id me.0 r at me.1).counted w refl (omega arith)) sane refl refl (omega arith) (omega arith) refl (λ o q. omega arith) in
-          let is : w ≡ counting n me.0 = ap (λ (b : Bool). if b then counting_below me.0 else counting_over me.0) (sym e) in
-          (w, keeps, tt, subst (λ (z : ℕ). Ruled k (stepped s k z id me.1 w keeps)) (sym up) ruled, subst (λ (z : View). Told z me (w, me.1)) is (told k s id me (w, me.1) w r at refl refl sane))
+          let is : w ≡ counting n me.0 = ap (λ (b : Bool). if b then counting_below n me.0 else counting_over n me.0) (sym e) in
+          (w, keeps, tt, subst (λ (z : ℕ). Ruled k (stepped s k z id me.1 w keeps)) (sym up) ruled, subst (λ (z : View). Moved z me (w, me.1)) is (told k s id me (w, me.1) w r at refl refl sane))
 
   -- a pass ends
-  pub ends_allowed : (slots id : ℕ) (me : Me S View) → 0 < me.0.passes → length me.0.holds < me.0.room → Allows (Ruled k) slots id me k (λ n. (n + (2 ^ 64 - 1)) % 2 ^ 64) (λ n m'. Told (ending me.0) me m')
+  pub ends_allowed : (slots id : ℕ) (me : Me S View) → 0 < me.0.passes → length me.0.holds < me.0.room → Allows (Ruled k) slots id me k (λ n. (n + (2 ^ 64 - 1)) % 2 ^ 64) (λ n m'. Moved (ending me.0) me m')
   ends_allowed slots id me own room s r _ at _ =
       let n : ℕ = get_or s.words k 0 in
       let mine = sane_at k s.views id me.0 r.sane at in
@@ -99,7 +98,7 @@ module _ {S : Type 0} (k : ℕ) where
       (w, keeps, tt, subst (λ (z : ℕ). Ruled k (stepped s k z id me.1 w keeps)) (sym down) ruled, told k s id me (w, me.1) w r at refl refl sane)
 
   -- a pass that found the limit reached is taken back
-  pub undoes_allowed : (slots id : ℕ) (me : Me S View) → 0 < me.0.over → 0 < me.0.passes → length me.0.holds < me.0.room → Allows (Ruled k) slots id me k (λ n. (n + (2 ^ 64 - 1)) % 2 ^ 64) (λ n m'. Told (undoing me.0) me m')
+  pub undoes_allowed : (slots id : ℕ) (me : Me S View) → 0 < me.0.over → 0 < me.0.passes → length me.0.holds < me.0.room → Allows (Ruled k) slots id me k (λ n. (n + (2 ^ 64 - 1)) % 2 ^ 64) (λ n m'. Moved (undoing me.0) me m')
   undoes_allowed slots id me over own room s r _ at _ =
       let n : ℕ = get_or s.words k 0 in
       let mine = sane_at k s.views id me.0 r.sane at in
@@ -131,7 +130,7 @@ parts_allowed k id v own room s r at =
     let sa = spares_set s.views id v (parting v) at in
     let sb = spares-append (set s.views id (parting v)) (empty_pass v) in
     let sd = r.spares in
-    let does = split_does k id v s 0 at in
+    let does = split_does k id v s 0 0 at in
     record {
       width = r.width;
       sound = subst IsSound (sym (same ∙ does.1)) (step_sound (split id []) (world k s) r.sound does.0);
@@ -150,11 +149,11 @@ parts_allowed k id v own room s r at =
     later : (n : ℕ) → IsTaken n s.views → IsTaken n (set s.views id (parting v) ++ empty_pass v ∷ [])
     later n t = taken_longer (set s.views id (parting v)) (empty_pass v ∷ []) n (taken_set s.views id v (parting v) at n (λ x. x) t)
 
-    views : map holds_of (set s.views id (parting v) ++ empty_pass v ∷ []) ≡ map holds_of (set s.views id (narrower 0 v) ++ part_of 0 v ∷ [])
+    views : map holds_of (set s.views id (parting v) ++ empty_pass v ∷ []) ≡ map holds_of (set s.views id (narrower 0 0 v) ++ part_of 0 0 v ∷ [])
     views =
         map-append holds_of (set s.views id (parting v)) (empty_pass v ∷ [])
-        ∙ ap (λ (z : List (List Node)). z ++ [] ∷ []) (map-set holds_of s.views id (parting v) ∙ sym (map-set holds_of s.views id (narrower 0 v)))
-        ∙ sym (map-append holds_of (set s.views id (narrower 0 v)) (part_of 0 v ∷ []))
+        ∙ ap (λ (z : List (List Node)). z ++ [] ∷ []) (map-set holds_of s.views id (parting v) ∙ sym (map-set holds_of s.views id (narrower 0 0 v)))
+        ∙ sym (map-append holds_of (set s.views id (narrower 0 0 v)) (part_of 0 0 v ∷ []))
 
-    same : world k record { words = s.words; homes = s.homes; views = set s.views id (parting v) ++ empty_pass v ∷ [] } ≡ world k record { words = s.words; homes = s.homes; views = set s.views id (narrower 0 v) ++ part_of 0 v ∷ [] }
+    same : world k record { words = s.words; homes = s.homes; views = set s.views id (parting v) ++ empty_pass v ∷ [] } ≡ world k record { words = s.words; homes = s.homes; views = set s.views id (narrower 0 0 v) ++ part_of 0 0 v ∷ [] }
     same = ap (with_views (world k s)) views

@@ -15,7 +15,7 @@ use Rattle.count_core.specs.Worlds.{IsSound}
 use Rattle.count_core.proofs.Around.{seen_occurs}
 use Rattle.count_core.proofs.Counting.{has_holder}
 use Rattle.count_core.proofs.Moves.{step_sound, sound_of}
-use Rattle.pool_rule.specs.Views.{View, taking, sharing, leaving}
+use Rattle.pool_rule.specs.Views.{View, taking, sharing, leaving, releasing}
 use Rattle.pool_rule.specs.Rules.{holds_of, world, Among, IsTaken, IsSane, Ruled}
 use Rattle.pool_rule.proofs.Taken.{among_split, taken_set, full_set, used_set}
 use Rattle.pool_rule.proofs.Worlds.{at_lt, held_at, length-rooms, narrow-roots, rooms_set, passes_set, overs_set, spares_set, overs_le, sane_set, world_stepped, word_world, width_world, places_world, word_again, world_live}
@@ -121,16 +121,17 @@ module _ {S : Type 0} (k : ℕ) (s : State S View) (id : ℕ) (v : View) (r : Ru
             ∙ (λ i. changed (world k s) (number t) (more i) id (sym holds i ++ option_to_list (sym found i))),
       )
 
-  pub leave_does : (t : Node) (c : List (ℕ × S)) (m : ℕ) → In t v.holds → m ≡ get_or s.words (number t) 0 - 1
-      → Does (leave id (number t)) (world k s) true (world k (stepped s (number t) m id c (leaving (get_or s.words (number t) 0) t v) keeps))
-  leave_does t c m h down =
+  pub leave_does : (t : Node) (w : View) (c : List (ℕ × S)) (m : ℕ) → w.holds ≡ (leaving (get_or s.words (number t) 0) t v).holds → In t v.holds → m ≡ get_or s.words (number t) 0 - 1
+      → Does (leave id (number t)) (world k s) true (world k (stepped s (number t) m id c w keeps))
+  leave_does t w c m same h down =
       let l = low t (root_occurs t v.holds h) in
       let holds = held_at s.views id v at in
       let found : first (number t) (holds_at (world k s) id) ≡ Some t = ap (λ (hs : List Node). first (number t) hs) holds ∙ first_held t h in
       let word = word_world k s (number t) l in
       let less : m ≡ word_at (world k s) (number t) - 1 = down ∙ ap (λ (z : ℕ). z - 1) (sym word) in (
         record { view = is_view; place = place (number t) l; held = subst (λ (x : Option Node). IsSome x) (sym found) refl },
-        world_stepped k s id (number t) m (leaving (get_or s.words (number t) 0) t v) c l
+        world_stepped k s id (number t) m w c l
+            ∙ (λ i. changed (world k s) (number t) m id (same i))
             ∙ (λ i. changed (world k s) (number t) (less i) id (without (number t) (sym holds i) ++ passed_on (sym word i) (sym found i))),
       )
 
@@ -139,13 +140,13 @@ module _ {S : Type 0} (k : ℕ) (s : State S View) (id : ℕ) (v : View) (r : Ru
   idle_world n m w c l same holds =
       world_stepped k s id n m w c l ∙ word_again k s id v n m w.holds at l same holds
 
-  pub look_does : (t : Node) (c : List (ℕ × S)) → Occurs t v.holds
-      → Does (look id (number t)) (world k s) true (world k (stepped s (number t) (get_or s.words (number t) 0) id c v keeps))
-  look_does t c o =
+  pub look_does : (t : Node) (w : View) (c : List (ℕ × S)) → w.holds ≡ v.holds → Occurs t v.holds
+      → Does (look id (number t)) (world k s) true (world k (stepped s (number t) (get_or s.words (number t) 0) id c w keeps))
+  look_does t w c same o =
       let l = low t o in
       let found : first (number t) (nodes_of (holds_at (world k s) id)) ≡ Some t = ap (λ (hs : List Node). first (number t) (nodes_of hs)) (held_at s.views id v at) ∙ first_seen t o in (
         record { view = is_view; place = place (number t) l; seen = subst (λ (x : Option Node). IsSome x) (sym found) refl },
-        idle_world (number t) (get_or s.words (number t) 0) v c l refl refl,
+        idle_world (number t) (get_or s.words (number t) 0) w c l refl same,
       )
 
   -- ---- what keeps the rule
@@ -192,8 +193,8 @@ module _ {S : Type 0} (k : ℕ) (s : State S View) (id : ℕ) (v : View) (r : Ru
   core_steps c = record {
     take = λ t l free held. take_does t c l free held;
     share = λ t small o. share_does t c (get_or s.words (number t) 0 + 1) small o refl;
-    leave = λ t h. leave_does t c (get_or s.words (number t) 0 - 1) h refl;
+    leave = λ t h. leave_does t (releasing (get_or s.words (number t) 0) t v) c (get_or s.words (number t) 0 - 1) refl h refl;
     counted = λ w same low. ((is_view, low), world_live k s id v w (get_or s.words k 0 + 1) c at r.width same);
     uncounted = λ w same some_. ((is_view, some_), world_live k s id v w (get_or s.words k 0 - 1) c at r.width same);
-    look = λ t o. look_does t c o;
+    look = λ t w same o. look_does t w c same o;
   }

@@ -1,10 +1,11 @@
 -- What each kind of step tells the token that makes it.
-use Rattle.std.specs.Prelude.{◌≡◌, ℕ, ◌<◌, List}
+use Rattle.std.specs.Prelude.{◌≡◌, ℕ, List}
 use Rattle.atomic_table.specs.Table.{Me}
 use Rattle.atomic_table.specs.Table as table
 use Rattle.node_forest.specs.Label.{Node, number}
-use Rattle.node_forest.specs.Members.{In}
-use Rattle.pool_rule.specs.Views.{View, tried, sharing, leaving}
+use Rattle.node_forest.specs.Members.{In, Occurs}
+use Rattle.count_core.specs.Holders.{Fitting}
+use Rattle.pool_rule.specs.Views.{View, tried, sharing, leaving, looking}
 use Rattle.pool_rule.specs.Rules.{IsSane}
 
 -- of holds with one number there is one node only
@@ -16,6 +17,7 @@ pub record Told {S : Type 0} (w : View) (before after : Me S View) : Type 0 wher
   pub view : after.0 ≡ w
   pub slots : after.1 ≡ before.1
   pub sane : IsSane w.size w
+  pub fits : Fitting w.size w.holds
   pub one_each : AreOneEach before.0.holds
 
 module _ {S : Type 0} where
@@ -27,10 +29,10 @@ module _ {S : Type 0} where
   abbrev pub shared : Node → table.Step S → Me S View → ℕ → Me S View → Type 0
   shared t st m found m' = Told (sharing t m.0) m m'
 
-  -- the hold goes, and where 1 is found the node's edges are direct holds
+  -- the hold goes, and where 1 is found the node's edges are direct holds, and it stands in no tree any more
   abbrev pub left : Node → table.Step S → Me S View → ℕ → Me S View → Type 0
-  left t st m found m' = Told (leaving found t m.0) m m'
+  left t st m found m' = Told (leaving found t m.0) m m' × (found ≡ 1 → Occurs t m'.0.holds → ⊥)
 
-  -- the view stays, and the number is one of the pool's
+  -- where 1 is found, the number is lone; else the look is noted
   abbrev pub looked : Node → table.Step S → Me S View → ℕ → Me S View → Type 0
-  looked t st m found m' = Told m.0 m m' × (number t < m.0.size)
+  looked t st m found m' = Told (looking found t m.0) m m'

@@ -82,6 +82,6 @@ pub record Ruled {S : Type 0} (k : ℕ) (s : State S View) : Type 0 where
   pub live : slice_index s.words k ≡ passes s.views
   -- passes above the limit are to be taken back, and there are few of these
   pub low : slice_index s.words k ≤ 2 ^ 18 + overs s.views
-  pub spares : spares s.views ≡ 64
+  pub spares : spares s.views ≤ 64
   pub used : (n : ℕ) → n < k → slice_index s.words n ≢ 0 → IsTaken n s.views
   pub full : (n : ℕ) → IsFull n s.views → IsTaken n s.views

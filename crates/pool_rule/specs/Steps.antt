@@ -6,7 +6,7 @@ use Rattle.node_forest.specs.Label.{Node, number}
 use Rattle.node_forest.specs.Members.{In, Occurs}
 use Rattle.count_core.specs.Views.{AreHeld}
 use Rattle.count_core.specs.Steps.{take, share, leave, look, counted, uncounted, Does}
-use Rattle.pool_rule.specs.Views.{View, taking, sharing, leaving}
+use Rattle.pool_rule.specs.Views.{View, taking, sharing, releasing}
 use Rattle.pool_rule.specs.Rules.{world}
 
 -- the token id has the view v, and the slots c are out with it
@@ -21,7 +21,7 @@ module _ {S : Type 0} (k : ℕ) (s : State S View) (id : ℕ) (v : View) (c : Li
   pub record AreCoreSteps : Type 0 where
     pub take : (t : Node) → number t < k → found t ≡ 0 → AreHeld (children t) v.holds → Does (take id (number t) t) (world k s) true (world k (after_step t 1 (taking t v)))
     pub share : (t : Node) → k ≤ 2 ^ 18 → Occurs t v.holds → Does (share id (number t)) (world k s) true (world k (after_step t (found t + 1) (sharing t v)))
-    pub leave : (t : Node) → In t v.holds → Does (leave id (number t)) (world k s) true (world k (after_step t (found t - 1) (leaving (found t) t v)))
+    pub leave : (t : Node) → In t v.holds → Does (leave id (number t)) (world k s) true (world k (after_step t (found t - 1) (releasing (found t) t v)))
     pub counted : (w : View) → w.holds ≡ v.holds → slice_index s.words k < 2 ^ 32 → Does (counted id) (world k s) true (world k (stepped s k (slice_index s.words k + 1) id c w keeps))
     pub uncounted : (w : View) → w.holds ≡ v.holds → slice_index s.words k ≢ 0 → Does (uncounted id) (world k s) true (world k (stepped s k (slice_index s.words k - 1) id c w keeps))
-    pub look : (t : Node) → Occurs t v.holds → Does (look id (number t)) (world k s) true (world k (after_step t (found t) v))
+    pub look : (t : Node) (w : View) → w.holds ≡ v.holds → Occurs t v.holds → Does (look id (number t)) (world k s) true (world k (after_step t (found t) w))

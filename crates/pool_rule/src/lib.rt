@@ -2,11 +2,17 @@
 //! and each step of a token is that rule's step. There is no code here but the laws.
 #![tactic(auto)]
 
+mod edge_marks;
 mod laws;
+mod marks;
 #[cfg(test)]
 mod tests;
 
+pub use edge_marks::{
+    edge_changes_are_marks, edge_changes_keep_the_rule, edge_changes_trade_holds,
+};
 pub use laws::{
     idle_pools_are_empty, passes_keep_the_rule, pools_start_ruled, steps_are_the_count_rules,
     steps_keep_the_rule, tokens_divide, weights_tell_holds,
 };
+pub use marks::{marks_are_the_count_rules, marks_keep_the_rule};

@@ -1,8 +1,12 @@
 //! The laws at a type of slots.
+use crate::edge_marks::{
+    edge_changes_are_marks, edge_changes_keep_the_rule, edge_changes_trade_holds,
+};
 use crate::laws::{
     idle_pools_are_empty, passes_keep_the_rule, pools_start_ruled, steps_are_the_count_rules,
     steps_keep_the_rule, tokens_divide, weights_tell_holds,
 };
+use crate::marks::{marks_are_the_count_rules, marks_keep_the_rule};
 
 #[test]
 fn laws_hold_of_slots_of_a_type(_rt: HostRuntime) {
@@ -13,4 +17,9 @@ fn laws_hold_of_slots_of_a_type(_rt: HostRuntime) {
     idle_pools_are_empty::<Option<u64>>();
     passes_keep_the_rule::<Option<u64>>();
     weights_tell_holds();
+    edge_changes_are_marks();
+    edge_changes_trade_holds();
+    edge_changes_keep_the_rule::<Option<u64>>();
+    marks_keep_the_rule::<Option<u64>>();
+    marks_are_the_count_rules::<Option<u64>>();
 }

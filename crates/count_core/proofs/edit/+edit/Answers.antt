@@ -2,7 +2,8 @@
 use Rattle.std.proofs.Common.{◌≡◌, ◌∙◌, [], ◌<◌, ◌-◌, ◌^◌, suc, ap, arith, sym, subst, get_or, set, length, List, ℕ}
 use Rattle.node_forest.specs.Forest.{children, forest}
 use Rattle.node_forest.specs.Label.{Node}
-use Rattle.count_core.specs.Marks.{Site, FitsAt, edit, site, raised, child_of, total}
+use Rattle.node_forest.specs.Paths.{child_of}
+use Rattle.count_core.specs.Marks.{Site, FitsAt, edit, site, raised, total}
 use Rattle.count_core.specs.Terms.{change_of}
 use Rattle.node_forest.proofs.Maps.{trees-forest}
 use Rattle.count_core.proofs.Lists.{default_same}

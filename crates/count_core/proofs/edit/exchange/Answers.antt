@@ -2,8 +2,8 @@
 use Rattle.std.proofs.Common.{◌≡◌, ◌∙◌, ◌++◌, ap, arith, sym, refl, subst, length, List, ℕ}
 use Rattle.node_forest.specs.Forest.{children, forest}
 use Rattle.node_forest.specs.Label.{Node}
-use Rattle.count_core.specs.Marks.{CanPull, KeepsChild, edges_after, joined, remaining, outgoing, pulled, unpulled, total, path_after}
-use Rattle.count_core.specs.Terms.{side_of}
+use Rattle.count_core.specs.Marks.{CanPull, edges_after, pulled, unpulled, total}
+use Rattle.node_forest.specs.Sides.{joined, remaining, outgoing, KeepsChild, path_after}
 use Rattle.count_core.proofs.TreeNodes.{children_of}
 use Rattle.count_core.proofs.edit.exchange.Goals as goal
 use Rattle.count_core.proofs.edit.exchange.Goals.{then-not-is_branch-via-then-not-is_branch, then-not-is_branch-via-else-not-is_branch+then-count-edges, then-not-is_branch-via-else-not-is_branch+else-count-edges+then-not-keeps_child, then-many-lt1-via-then-many-lt1, then-many-lt1-via-else-many-lt1+then-many-gt6}
@@ -15,7 +15,7 @@ returns-then-not-is_branch c = λ fits.
     elim c.then-not-is_branch.branch [
       | then-not-is_branch-via-then-not-is_branch w ↦ (let f = w.if-not-is_branch.ensures.1 fits.branch in cc)
       | then-not-is_branch-via-else-not-is_branch+then-count-edges w ↦ absurd (let e = fits.enough in let m = w.if-count-edges.true in omega arith)
-      | then-not-is_branch-via-else-not-is_branch+else-count-edges+then-not-keeps_child w ↦ (let f = w.if-not-keeps_child.ensures.1 (subst (λ (z : ℕ). KeepsChild (side_of c.args.side) c.args.count z c.args.path.now) edges fits.keeps) in cc)
+      | then-not-is_branch-via-else-not-is_branch+else-count-edges+then-not-keeps_child w ↦ (let f = w.if-not-keeps_child.ensures.1 (subst (λ (z : ℕ). KeepsChild c.args.side c.args.count z c.args.path.now) edges fits.keeps) in cc)
     ]
 
 pub new_place-place-requires : goal.new_place-place-requires
@@ -28,8 +28,8 @@ pub returns-in_default-total : goal.returns-in_default-total
 returns-in_default-total c = λ fits.
     let pulls : CanPull c.args.numbers.now c.args.holds.now × (c.in-Some.new.items ≡ pulled c.args.numbers.now c.args.holds.now) × (c.pull.new.self ≡ unpulled c.args.numbers.now c.args.holds.now) = rw c.in-Some.is at c.in_ok-new.ensures in
     let old : c.replace-old.result.items ≡ children c.args.tree.now = ap (λ v. v.items) c.replace-old.ensures.value ∙ sym (children_of c.tree.inside c.args.tree.now c.tree.view_is) in
-    let made : c.in_ok-kids.kids.items ≡ edges_after (side_of c.args.side) c.args.count c.args.numbers.now c.args.tree.now c.args.holds.now =
-    c.in_ok-kids.ensures.0 ∙ (λ i. joined (side_of c.args.side) (pulls.1 i) (remaining (side_of c.args.side) c.args.count (old i))) in
+    let made : c.in_ok-kids.kids.items ≡ edges_after c.args.side c.args.count c.args.numbers.now c.args.tree.now c.args.holds.now =
+    c.in_ok-kids.ensures.0 ∙ (λ i. joined c.args.side (pulls.1 i) (remaining c.args.side c.args.count (old i))) in
     let long = ap total (c.deref.ensures.value ∙ made) in
     let short = fits.short in
     let high = c.in_default-total.ensures in
@@ -39,8 +39,8 @@ pub returns-then-many-lt1 : goal.returns-then-many-lt1
 returns-then-many-lt1 c = λ fits.
     let pulls : CanPull c.args.numbers.now c.args.holds.now × (c.in-Some.new.items ≡ pulled c.args.numbers.now c.args.holds.now) × (c.pull.new.self ≡ unpulled c.args.numbers.now c.args.holds.now) = rw c.in-Some.is at c.in_ok-new.ensures in
     let old : c.replace-old.result.items ≡ children c.args.tree.now = ap (λ v. v.items) c.replace-old.ensures.value ∙ sym (children_of c.tree.inside c.args.tree.now c.tree.view_is) in
-    let made : c.in_ok-kids.kids.items ≡ edges_after (side_of c.args.side) c.args.count c.args.numbers.now c.args.tree.now c.args.holds.now =
-    c.in_ok-kids.ensures.0 ∙ (λ i. joined (side_of c.args.side) (pulls.1 i) (remaining (side_of c.args.side) c.args.count (old i))) in
+    let made : c.in_ok-kids.kids.items ≡ edges_after c.args.side c.args.count c.args.numbers.now c.args.tree.now c.args.holds.now =
+    c.in_ok-kids.ensures.0 ∙ (λ i. joined c.args.side (pulls.1 i) (remaining c.args.side c.args.count (old i))) in
     let long = ap (λ (ts : List Node). length ts) made in
     let some = fits.some in
     let few = fits.few in
@@ -51,7 +51,7 @@ returns-then-many-lt1 c = λ fits.
 
 pub returns : goal.returns
 returns c =
-    let side = side_of c.args.side in
+    let side = c.args.side in
     let ms = c.args.numbers.now in
     let hs = c.args.holds.now in
     let now = c.args.tree.now in

@@ -1,6 +1,6 @@
 -- What the loop of `never_deeper` keeps, or what grows less in its recursion.
 use Rattle.std.proofs.Common.{drop}
-use Rattle.count_core.specs.Marks.{NeverDeeper}
+use Rattle.node_forest.specs.Paths.{NeverDeeper}
 use Rattle.count_core.specs.Terms.{changes_of}
 use Rattle.count_core.proofs.edit.never_deeper.Given as goal
 

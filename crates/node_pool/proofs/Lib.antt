@@ -1,0 +1,4 @@
+-- The lemmas of this crate.
+pub mod Passing
+pub mod Seats
+pub mod Takes

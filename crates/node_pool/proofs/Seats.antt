@@ -1,0 +1,110 @@
+-- What a token between calls gives its seat, and what a seat gives its token.
+use Rattle.std.proofs.Common.{◌≡◌, ℕ, ◌+◌, ◌-◌, ◌%◌, ◌^◌, ◌<◌, ◌≤◌, Bool, true, false, eqb, List, [], ◌∷◌, length, refl, sym, ap, subst, ◌∙◌, arith}
+use Rattle.std.specs.Prelude.{if◌then◌else◌}
+use mathlib.Core.Option.{none}
+use prog.Atomic.{either}
+use Rattle.atomic_table.specs.Seated.{TableId}
+use Rattle.atomic_table.specs.Table.{Me, step, Allows}
+use Rattle.node_forest.specs.Forest.{children}
+use Rattle.node_forest.specs.Label.{Node, number}
+use Rattle.node_forest.specs.Members.{Occurs}
+use Rattle.node_forest.proofs.Members.{root_occurs}
+use Rattle.count_core.specs.Holders.{Fitting}
+use Rattle.pool_rule.specs.Rules.{IsSane}
+use Rattle.pool_rule.specs.Plays.{Told, taken, shared, left}
+use Rattle.pool_rule.specs.Pools.{Terms, Kept}
+use Rattle.pool_rule.specs.Trades.{HasHolds, Stands}
+use Rattle.pool_rule.specs.Views.{View, taking, noting, tried, sharing, leaving}
+use Rattle.pool_rule.proofs.Calls.{takes, shares, leaves}
+use Rattle.pool_rule.proofs.Door.{held-in, stands-occurs}
+use Rattle.node_pool.specs.Tokens.{only, IsWorkerView, IsToken}
+
+-- the view of the seat is what contracts see of the token
+pub seat_view : (views : List View) (v w : View) → views ≡ v ∷ [] → only views ≡ w → v ≡ w
+seat_view views v w a b = sym (ap only a) ∙ b
+
+-- a badge with one view is a token
+pub token_of : (Is : View → Type 0) (wanted at : TableId) (views : List View) (v : View) → at ≡ wanted → views ≡ v ∷ [] → Is v → IsToken Is wanted at views
+token_of Is wanted at views v same one is = record {
+  table = same;
+  one = one ∙ (λ i. sym (ap only one) i ∷ []);
+  is = subst Is (sym (ap only one)) is;
+}
+
+-- what a step leaves of a worker's view
+pub record IsSteady (v w : View) : Type 0 where
+  pub size : w.size ≡ v.size
+  pub limit : w.limit ≡ v.limit
+  pub room : w.room ≡ v.room
+  pub spare : w.spare ≡ v.spare
+  pub over : w.over ≡ v.over
+  pub passes : w.passes ≡ v.passes
+  pub away : w.away ≡ v.away
+  pub joined : w.joined ≡ v.joined
+
+abbrev steady : {v w : View} → w.size ≡ v.size → w.limit ≡ v.limit → w.room ≡ v.room → w.spare ≡ v.spare → w.over ≡ v.over → w.passes ≡ v.passes → w.away ≡ v.away → w.joined ≡ v.joined → IsSteady v w
+steady a b c d e f g h = record { size = a; limit = b; room = c; spare = d; over = e; passes = f; away = g; joined = h }
+
+pub steady-sharing : (t : Node) (v : View) → IsSteady v (sharing t v)
+steady-sharing t v = steady refl refl refl refl refl refl refl refl
+
+pub steady-leaving : (n : ℕ) (t : Node) (v : View) → IsSteady v (leaving n t v)
+steady-leaving n t v = steady refl refl refl refl refl refl refl refl
+
+pub steady-tried : (n : ℕ) (t : Node) (v : View) → IsSteady v (tried n t v)
+steady-tried n t v = go (eqb n 0)
+  where
+    go : (b : Bool) → IsSteady v (if b then taking t v else noting (number t) v)
+    go true = steady refl refl refl refl refl refl refl refl
+    go false = steady refl refl refl refl refl refl refl refl
+
+-- a worker's view is a worker's again
+pub worker_again : (numbers most : ℕ) (v w : View) → IsWorkerView numbers most v → IsSteady v w → IsSane w.size w → Fitting w.size w.holds → IsWorkerView numbers most w
+worker_again numbers most v w i s sane fits = record {
+  sane = sane;
+  size = s.size ∙ i.size;
+  limit = s.limit ∙ i.limit;
+  fits = subst (λ (k : ℕ). Fitting k w.holds) (s.size ∙ i.size) fits;
+  room = omega (arith, s.room, i.room);
+  spare = s.spare ∙ i.spare;
+  over = s.over ∙ i.over;
+  passes = s.passes ∙ i.passes;
+  away = s.away ∙ i.away;
+  joined = s.joined ∙ i.joined;
+}
+
+-- a worker after a step
+pub worker_told : {S : Type 0} (numbers most : ℕ) (wanted at : TableId) (views : List View) (v w : View) (me after : Me S View) → IsWorkerView numbers most v → me.0 ≡ v → IsSteady me.0 w → Told w me after → at ≡ wanted
+    → views ≡ after.0 ∷ [] → IsToken (IsWorkerView numbers most) wanted at views
+worker_told numbers most wanted at views v w me after i same s told place one =
+    token_of (IsWorkerView numbers most) wanted at views w place (one ∙ (λ q. told.view q ∷ []))
+    (worker_again numbers most me.0 w (subst (IsWorkerView numbers most) (sym same) i) s told.sane told.fits)
+
+-- the number of what a worker sees is a place of the words
+pub low_stands : (numbers most : ℕ) (v : View) (t : Node) → IsWorkerView numbers most v → Stands v.holds t → number t < numbers
+low_stands numbers most v t i stands = i.fits t (stands-occurs v.holds t stands)
+
+pub low_held : (numbers most : ℕ) (v : View) (t : Node) → IsWorkerView numbers most v → HasHolds v.holds (t ∷ []) → number t < numbers
+low_held numbers most v t i held = i.fits t (root_occurs t v.holds (held-in v.holds t held))
+
+-- what a worker may do on a word, told of its seat
+module _ {S : Type 0} (p : Terms S) (slots id i numbers most : ℕ) (me : Me S View) (w : View) (t : Node) (same : me.0 ≡ w) (worker : IsWorkerView numbers most w) (at : i ≡ number t) (size : p.numbers ≡ numbers) where
+  spared : 0 < me.0.spare
+  spared = omega (arith, ap (λ (v : View). v.spare) same, worker.spare)
+
+  roomy : (k : ℕ) → length w.holds < 256 + k → length me.0.holds < me.0.room + k
+  roomy k less = omega (arith, ap (λ (v : View). length v.holds) same, ap (λ (v : View). v.room) same, worker.room, less)
+
+  pub take_at : number t < numbers → HasHolds w.holds (children t) → length (children t) ≤ 6 → length w.holds < 256 + length (children t)
+      → Allows (Kept p) slots id me i (λ n. either (eqb n 0) 1 n) (taken t (step slots i 0 1 none) me)
+  take_at low held few room = subst (λ (j : ℕ). Allows (Kept p) slots id me j (λ n. either (eqb n 0) 1 n) (λ n m'. Told (tried n t me.0) me m')) (sym at)
+      (takes p slots id me spared t (omega (arith, low, size)) (subst (λ (v : View). HasHolds v.holds (children t)) (sym same) held) few (roomy (length (children t)) room))
+
+  pub share_at : numbers ≤ 2 ^ 18 → Stands w.holds t → length w.holds < 256 → Allows (Kept p) slots id me i (λ n. (n + 1) % 2 ^ 64) (shared t (step slots i 1 0 none) me)
+  share_at small stands room = subst (λ (j : ℕ). Allows (Kept p) slots id me j (λ n. (n + 1) % 2 ^ 64) (shared t (step slots j 1 0 none) me)) (sym at)
+      (shares p slots id me spared t (omega (arith, small, size)) (subst (λ (v : View). Stands v.holds t) (sym same) stands) (omega (arith, roomy 0 (omega (arith, room)))))
+
+  pub leave_at : HasHolds w.holds (t ∷ []) → length w.holds + length (children t) ≤ 257 → Allows (Kept p) slots id me i (λ n. (n + (2 ^ 64 - 1)) % 2 ^ 64) (left t (step slots i 1 0 none) me)
+  leave_at held room = subst (λ (j : ℕ). Allows (Kept p) slots id me j (λ n. (n + (2 ^ 64 - 1)) % 2 ^ 64) (left t (step slots j 1 0 none) me)) (sym at)
+      (leaves p slots id me spared t (subst (λ (v : View). HasHolds v.holds (t ∷ [])) (sym same) held)
+      (omega (arith, ap (λ (v : View). length v.holds) same, ap (λ (v : View). v.room) same, worker.room, room)))

@@ -1,0 +1,23 @@
+//! Counted nodes that threads share. A pool has a word for each number, which counts who holds the node of that number. Each
+//! thread has a worker, whose direct holds say what it may read; a pass keeps one tree between calls. Each call is a few single
+//! steps on words, each of them a step of the count rule, and waits for nobody.
+#![tactic(auto)]
+
+mod calls;
+mod naming;
+mod outlet;
+mod passes;
+mod plays;
+mod pool;
+mod tokens;
+mod view;
+mod words;
+
+pub use calls::{Left, TakeError};
+pub use naming::Naming;
+pub use node_edges::{Body, Edge, Memory};
+pub use outlet::Outlet;
+pub use passes::PassLimit;
+pub use pool::Pool;
+pub use tokens::{Pass, Worker};
+pub use view::{CountRule, PoolTerms, TokenView};

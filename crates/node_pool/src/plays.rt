@@ -1,0 +1,99 @@
+//! What each kind of step tells, and how tokens are divided and joined.
+use crate::naming::{Chosen, Naming};
+use crate::view::TokenView;
+use atomic_table::{Join, Play, Split};
+use std::marker::PhantomData;
+
+pub struct Takes<T> {
+    node: PhantomData<T>,
+}
+
+impl<S, T: Chosen> Play<S, TokenView> for Takes<T> {
+    ghost use Rattle.pool_rule.specs.Plays.{taken};
+
+    ghost then = { taken T.node };
+}
+
+pub struct Shares<T> {
+    node: PhantomData<T>,
+}
+
+impl<S, T: Chosen> Play<S, TokenView> for Shares<T> {
+    ghost use Rattle.pool_rule.specs.Plays.{shared};
+
+    ghost then = { shared T.node };
+}
+
+pub struct Leaves<T> {
+    node: PhantomData<T>,
+}
+
+impl<S, T: Chosen> Play<S, TokenView> for Leaves<T> {
+    ghost use Rattle.pool_rule.specs.Plays.{left};
+
+    ghost then = { left T.node };
+}
+
+pub struct Counts;
+
+impl<S> Play<S, TokenView> for Counts {
+    ghost use Rattle.pool_rule.specs.Plays.{Told};
+    ghost use Rattle.pool_rule.specs.Views.{counting};
+
+    ghost then = { λ _ m n m2. Told (counting n m.0) m m2 };
+}
+
+pub struct Ends;
+
+impl<S> Play<S, TokenView> for Ends {
+    ghost use Rattle.pool_rule.specs.Plays.{Told};
+    ghost use Rattle.pool_rule.specs.Views.{ending};
+
+    ghost then = { λ _ m n m2. Told (ending m.0) m m2 };
+}
+
+pub struct Undoes;
+
+impl<S> Play<S, TokenView> for Undoes {
+    ghost use Rattle.pool_rule.specs.Plays.{Told};
+    ghost use Rattle.pool_rule.specs.Views.{undoing};
+
+    ghost then = { λ _ m n m2. Told (undoing m.0) m m2 };
+}
+
+/// A pass of a worker becomes a token of its own.
+pub struct Parts;
+
+impl Split<TokenView> for Parts {
+    ghost use Rattle.pool_rule.specs.Views.{parting, empty_pass};
+
+    ghost left = { parting };
+
+    ghost right = { empty_pass };
+}
+
+/// The same, with a direct hold.
+pub struct Hands<T> {
+    node: PhantomData<T>,
+}
+
+impl<T: Chosen> Split<TokenView> for Hands<T> {
+    ghost use Rattle.pool_rule.specs.Views.{giving, holder};
+
+    ghost left = { giving T.node };
+
+    ghost right = { holder T.node };
+}
+
+/// A pass goes back to a worker.
+pub struct Draws<P> {
+    of: PhantomData<P>,
+}
+
+impl<P: Naming> Join<TokenView> for Draws<P> {
+    ghost use Rattle.pool_rule.specs.Views.{drawing, blank};
+
+    ghost both = { drawing };
+
+    ghost spent = { blank 0 P.size P.limit 0 };
+}

@@ -1,0 +1,24 @@
+//! The pool.
+ghost use Rattle.std.specs.Prelude.{◌≡◌, ◌+◌, ◌^◌, ◌≤◌};
+
+use crate::naming::Naming;
+use crate::outlet::Outlet;
+use crate::view::{CountRule, PoolTerms, TokenView};
+use atomic_table::Table;
+use cord_port::Releaser;
+use std::alloc::Global;
+use std::marker::PhantomData;
+
+/// A word for each number, one for the live passes, and a slot for each releaser.
+pub struct Pool<P: Naming, B: Releaser> {
+    pub(crate) table: Table<Option<Outlet<B>>, TokenView, PoolTerms, CountRule, Global>,
+    pub(crate) numbers: usize,
+    pub(crate) passes: u64,
+    pub(crate) of: PhantomData<P>,
+    ghost named: { table.shared.table_id ≡ P.table },
+    ghost wide: { table.shared.table_id.words ≡ P.size + 1 },
+    ghost sized: { (numbers ≡ P.size) × (table.shared.key.numbers ≡ P.size) },
+    ghost limited: { passes ≡ P.limit },
+    ghost workers: { table.shared.key.workers ≡ P.workers },
+    ghost small: { P.size ≤ 2 ^ 18 },
+}

@@ -1,0 +1,365 @@
+-- The rule as the pool's calls ask for it: holds are told by weights.
+use Rattle.std.proofs.Common.{◌≡◌, ◌≢◌, ◌⊎◌, inl, inr, ⊎_elim, eq-eqb, ne_eqb, sum_by, get_or-set_other, ℕ, zero, suc, ◌+◌, ◌-◌, ◌%◌, ◌^◌, ◌<◌, ◌≤◌, Bool, true, false, eqb, List, [], ◌∷◌, ◌++◌, length, set, get_or, refl, sym, ap, subst, ◌∙◌, arith, get_or-set_same, append-nil}
+use Rattle.std.specs.Prelude.{if◌then◌else◌, nat_lt, Some}
+use Rattle.std.proofs.lemmas.List.Sums.{sum_by-append}
+use mathlib.Core.Logic.{dite}
+use native.Mathlib.Decide.{ℕ_discrete}
+use mathlib.Core.Option.{none, some, some-injective, some-ne-none}
+use lib.ListN.{get_elem?}
+use prog.Atomic.{either}
+use Rattle.atomic_table.specs.Table.{State, Me, step, keeps, stepped, opening, Allows, Splits, Joins}
+use Rattle.atomic_table.proofs.Lists.{set_here}
+use Rattle.node_forest.specs.Forest.{children, below}
+use Rattle.node_forest.specs.Label.{Node, number}
+use Rattle.node_forest.specs.Members.{In, Occurs}
+use Rattle.node_forest.proofs.Members.{root_occurs, child_occurs, below_in, alone_out, occurs_split}
+use Rattle.count_core.specs.Steps.{zeroes}
+use Rattle.count_core.specs.Views.{without, without_all, passed_on, AreHeld}
+use Rattle.pool_rule.specs.Notes.{Count, Tally, lone_but}
+use Rattle.pool_rule.specs.Views.{View, taking, noting, tried, sharing, leaving, looking, count_of, tally_of, counting_below, counting_over, counting, ending, undoing, narrower, part_of, parting, empty_pass, handing, giving, without_node, holder, drawing, merged, first_view, spent}
+use Rattle.pool_rule.specs.Rules.{Ruled}
+use Rattle.pool_rule.specs.Plays.{AreOneEach, Told, taken, shared, left, looked}
+use Rattle.pool_rule.specs.Pools.{Terms, Member, IsAlone, IsReached, IsBare, Kept}
+use Rattle.pool_rule.specs.Trades.{HasHolds, Stands}
+use Rattle.pool_rule.proofs.Allowed.{takes_allowed, shares_allowed, leaves_allowed, looks_allowed}
+use Rattle.pool_rule.proofs.Door.{held-in, held-core, stands-occurs, takes-trades_held, leaves-trades}
+use Rattle.pool_rule.proofs.Giving.{without_node-number}
+use Rattle.pool_rule.proofs.Hands.{hands_allowed}
+use Rattle.pool_rule.proofs.Passes.{passes_le, counts_allowed, ends_allowed, undoes_allowed, parts_allowed}
+use Rattle.pool_rule.proofs.Holds.{occurs_without, occurs_without_all, occurs_among, held_in, child_below, below_child}
+use Rattle.pool_rule.proofs.Alone.{reached_alone, member_lone_but, member_split, but_apart}
+use Rattle.pool_rule.proofs.Tallies.{IsTally, SameTally, same_tally}
+use Rattle.pool_rule.proofs.Pools.{IsStep, step_allowed, stepped_kept, told_after, split_allowed, join_allowed, rehomed}
+use Rattle.pool_rule.proofs.Steps.{low, same_held, word_some, live_low}
+use Rattle.pool_rule.proofs.Tokens.{zero-at, starts, splits_allowed, joins_allowed}
+use Rattle.pool_rule.proofs.Worlds.{at_lt}
+
+-- no count, no joined token
+same_sides : {v w : View} → w.made ≡ v.made → w.ended ≡ v.ended → w.counts ≡ v.counts → w.joined ≡ v.joined → SameTally v w
+same_sides a b c d = record { made = a; ended = b; counts = c; joined = d }
+
+both_tried : (P : View → Type 0) (n : ℕ) (t : Node) (v : View) → (n ≡ 0 → P (taking t v)) → (n ≢ 0 → P (noting (number t) v)) → P (tried n t v)
+both_tried P n t v yes_ no_ =
+    dite (ℕ_discrete n 0)
+    (λ e. subst (λ (b : Bool). P (if b then taking t v else noting (number t) v)) (sym (eq-eqb n 0 e)) (yes_ e))
+    (λ ne. subst (λ (b : Bool). P (if b then taking t v else noting (number t) v)) (sym (ne_eqb n 0 ne)) (no_ ne))
+
+abbrev found_one : Node → View → View
+found_one t v = record v { lone = v.lone ++ number t ∷ [] }
+
+abbrev found_more : ℕ → Node → View → View
+found_more n t v = record v { looks = v.looks ++ record { number = number t; found = n; shares = v.shares } ∷ [] }
+
+both_looking : (P : View → Type 0) (n : ℕ) (t : Node) (v : View) → (n ≡ 1 → P (found_one t v)) → (n ≢ 1 → P (found_more n t v)) → P (looking n t v)
+both_looking P n t v yes_ no_ =
+    dite (ℕ_discrete n 1)
+    (λ e. subst (λ (b : Bool). P (if b then found_one t v else found_more n t v)) (sym (eq-eqb n 1 e)) (yes_ e))
+    (λ ne. subst (λ (b : Bool). P (if b then found_one t v else found_more n t v)) (sym (ne_eqb n 1 ne)) (no_ ne))
+
+both_counting : (P : View → Type 0) (n : ℕ) (v : View) → P (counting_below n v) → P (counting_over n v) → P (counting n v)
+both_counting P n v a b = go (nat_lt n v.limit)
+  where
+    go : (c : Bool) → P (if c then counting_below n v else counting_over n v)
+    go true = a
+    go false = b
+
+-- what occurs after a leave
+occurs_passed : (n : ℕ) (x t : Node) (hs : List Node) → In t hs → Occurs x (without (number t) hs ++ passed_on n (Some t)) → Occurs x hs
+occurs_passed n x t hs here o = ⊎_elim (λ a. occurs_without (number t) x hs a) (λ b. go (eqb n 1) b) (occurs_split x (without (number t) hs) (passed_on n (Some t)) o)
+  where
+    go : (b : Bool) → Occurs x (if b then children t else []) → Occurs x hs
+    go true i = below_in x t hs (root_occurs t hs here) (child_below x t i)
+    go false i = absurd i
+
+reached_occurs : (t : Node) (v : View) → IsReached t v → Occurs t v.holds
+reached_occurs t v reach = ⊎_elim (λ a. root_occurs t v.holds a) (λ b. child_occurs t b.0 v.holds b.1 b.3) reach
+
+-- a lone number that a step on another's word leaves
+but_lone : (t : Node) (j : ℕ) (ns : List ℕ) → Member j (lone_but (t ∷ []) ns) → Member j ns × (j ≢ number t)
+but_lone t j ns h = let r = member_lone_but (t ∷ []) j ns h in (r.0, λ e. but_apart (t ∷ []) j t r.1 (inl refl) (sym e))
+
+module _ {S : Type 0} (p : Terms S) (s : State S View) (id : ℕ) (v : View) (r : Kept p s) (at : get_elem? s.views id ≡ some v) where
+  live_same : (i m : ℕ) → i < p.numbers → get_or (set s.words i m) p.numbers 0 + 0 ≡ get_or s.words p.numbers 0 + 0
+  live_same i m l = let e = get_or-set_other s.words i p.numbers m 0 (λ z. omega (arith, z, l)) in omega (arith, e)
+
+  -- a step on the word of a node that the token sees
+  seen_step : (t : Node) (m : ℕ) (w : View) → Occurs t v.holds → w.spare ≡ v.spare → SameTally v w → w.lone ≡ lone_but (t ∷ []) v.lone → ((x : Node) → Occurs x w.holds → Occurs x v.holds) → IsStep p s id (number t) m v w
+  seen_step t m w here spare tally lone down =
+      let l = low p.numbers s id v r.counted at t here in
+      record {
+        spare = spare;
+        wide = omega (arith, l, r.counted.width);
+        tally = same_tally (get_or s.words p.numbers 0) v w tally;
+        live = live_same (number t) m l;
+        lone = record {
+          kept = λ j h. let b = but_lone t j v.lone (subst (λ (ns : List ℕ). Member j ns) lone h) in inl (b.0, inl b.1);
+          touch = λ o ne a. absurd (a.apart id v at (λ e. ne (sym e)) t here refl);
+          new = λ x o. inl (down x o);
+        };
+      }
+
+  -- a step that leaves the word and the holds
+  still_step : (n m : ℕ) (w : View) → n < p.numbers → m ≡ get_or s.words n 0 → w.spare ≡ v.spare → SameTally v w → w.holds ≡ v.holds
+      → ((j : ℕ) → Member j w.lone → Member j v.lone ⊎ IsAlone p.numbers (set s.words n m) (set s.views id w) id j) → IsStep p s id n m v w
+  still_step n m w l same spare tally holds lone = record {
+    spare = spare;
+    wide = omega (arith, l, r.counted.width);
+    tally = same_tally (get_or s.words p.numbers 0) v w tally;
+    live = live_same n m l;
+    lone = record {
+      kept = λ j h. ⊎_elim (λ a. inl (a, inr same)) (λ b. inr b) (lone j h);
+      touch = λ o ne a. same;
+      new = λ x o. inl (subst (λ (hs : List Node). Occurs x hs) holds o);
+    };
+  }
+
+  take_step : (t : Node) → number t < p.numbers → get_or s.words (number t) 0 ≡ 0 → AreHeld (children t) v.holds → (m : ℕ) → IsStep p s id (number t) m v (taking t v)
+  take_step t l free held m = record {
+    spare = refl;
+    wide = omega (arith, l, r.counted.width);
+    tally = same_tally (get_or s.words p.numbers 0) v (taking t v) (same_sides refl refl refl refl);
+    live = live_same (number t) m l;
+    lone = record {
+      kept = λ j h. inl (h, inl (λ e. let one = (r.lone id j v at h).one in let zero_ : get_or s.words j 0 ≡ 0 = ap (λ (z : ℕ). get_or s.words z 0) e ∙ free in absurd (omega (arith, one, zero_))));
+      touch = λ o ne a. absurd (omega (arith, a.one, free));
+      new = λ x o. ⊎_elim
+          (λ a. inl (occurs_without_all x (children t) v.holds a))
+          (λ b. ⊎_elim (λ e. inr (ap number e, free)) (λ c. inl (occurs_among x (children t) v.holds (held_in (children t) v.holds held) c)) (below_child x t (alone_out x t b)))
+          (occurs_split x (without_all (children t) v.holds) (t ∷ []) o);
+    };
+  }
+
+  -- a step on the word of live passes
+  live_step : (m : ℕ) (w : View) (tally : IsTally (get_or s.words p.numbers 0) v w) → m + tally.ended ≡ get_or s.words p.numbers 0 + tally.made → w.spare ≡ v.spare → w.lone ≡ v.lone → w.holds ≡ v.holds → IsStep p s id p.numbers m v w
+  live_step m w tally live spare lone holds = record {
+    spare = spare;
+    wide = omega (arith, r.counted.width);
+    tally = tally;
+    live = let e = get_or-set_same s.words p.numbers m 0 (omega (arith, r.counted.width)) in omega (arith, e, live);
+    lone = record {
+      kept = λ j h. let mine = subst (λ (ns : List ℕ). Member j ns) lone h in inl (mine, inl (λ e. absurd (omega (arith, e, (r.lone id j v at mine).low))));
+      touch = λ o ne a. absurd (omega (arith, a.low));
+      new = λ x o. inl (subst (λ (hs : List Node). Occurs x hs) holds o);
+    };
+  }
+
+abbrev counts_tally : (word : ℕ) (v w : View) → w.made ≡ v.made + 1 → w.ended ≡ v.ended → w.joined ≡ v.joined → w.counts ≡ v.counts ++ count_of word v ∷ [] → IsTally word v w
+counts_tally word v w made ended joined counts = record {
+  made = 1;
+  ended = 0;
+  more_made = made;
+  more_ended = omega (arith, ended);
+  joined = joined;
+  counts = λ c h. ⊎_elim (λ a. inl a) (λ b. ⊎_elim (λ e. inr (e, refl)) (λ z. absurd z) b) (member_split c v.counts (count_of word v ∷ []) (subst (λ (l : List Count). Member c l) counts h));
+}
+
+abbrev ends_tally : (word : ℕ) (v w : View) → w.made ≡ v.made → w.ended ≡ v.ended + 1 → w.joined ≡ v.joined → w.counts ≡ v.counts → IsTally word v w
+ends_tally word v w made ended joined counts = record {
+  made = 0;
+  ended = 1;
+  more_made = omega (arith, made);
+  more_ended = ended;
+  joined = joined;
+  counts = λ c h. inl (subst (λ (l : List Count). Member c l) counts h);
+}
+
+module _ {S : Type 0} (p : Terms S) (slots id : ℕ) (me : Me S View) (worker : 0 < me.0.spare) where
+  pub takes : (t : Node) → number t < p.numbers → HasHolds me.0.holds (children t) → length (children t) ≤ 6 → length me.0.holds < me.0.room + length (children t)
+      → Allows (Kept p) slots id me (number t) (λ n. either (eqb n 0) 1 n) (taken t (step slots (number t) 0 1 none) me)
+  takes t l held few room s r homes at below =
+      let good : (s : State S View) → Kept p s → get_elem? s.views id ≡ some me.0 → IsStep p s id (number t) (either (eqb (get_or s.words (number t) 0) 0) 1 (get_or s.words (number t) 0)) me.0 (tried (get_or s.words (number t) 0) t me.0) =
+      (λ s r at. let n : ℕ = get_or s.words (number t) 0 in
+      both_tried (λ w. IsStep p s id (number t) (either (eqb n 0) 1 n) me.0 w) n t me.0
+      (λ free. take_step p s id me.0 r at t l free (held-core me.0.holds (children t) (same_held p.numbers s id me.0 r.counted at) held) (either (eqb n 0) 1 n))
+      (λ full. still_step p s id me.0 r at (number t) (either (eqb n 0) 1 n) (noting (number t) me.0) l (ap (λ (b : Bool). either b 1 n) (ne_eqb n 0 full)) refl (same_sides refl refl refl refl) refl (λ j h. inl h))) in
+      let one : AreOneEach me.0.holds = same_held p.numbers s id me.0 r.counted at in
+      let new : List Node = without_all (children t) me.0.holds ++ t ∷ [] in
+      let trade = takes-trades_held me.0.holds new (children t) t one held refl in
+      let count = trade.count in
+      step_allowed p slots id (number t) me (λ n. either (eqb n 0) 1 n) (λ n. tried n t me.0) worker good
+      (takes_allowed p.numbers slots id me t l (held-core me.0.holds (children t) one held) few (omega arith)) s r homes at below
+
+  pub shares : (t : Node) → p.numbers ≤ 2 ^ 18 → Stands me.0.holds t → length me.0.holds < me.0.room
+      → Allows (Kept p) slots id me (number t) (λ n. (n + 1) % 2 ^ 64) (shared t (step slots (number t) 1 0 none) me)
+  shares t small stands room =
+      step_allowed p slots id (number t) me (λ n. (n + 1) % 2 ^ 64) (λ n. sharing t me.0) worker
+      (λ s r at. seen_step p s id me.0 r at t ((get_or s.words (number t) 0 + 1) % 2 ^ 64) (sharing t me.0) (stands-occurs me.0.holds t stands) refl (same_sides refl refl refl refl) refl
+      (λ x o. ⊎_elim (λ a. a) (λ b. below_in x t me.0.holds (stands-occurs me.0.holds t stands) (alone_out x t b)) (occurs_split x me.0.holds (t ∷ []) o)))
+      (shares_allowed p.numbers slots id me t small (stands-occurs me.0.holds t stands) room)
+
+  pub looks : (t : Node) → IsReached t me.0 → Allows (Kept p) slots id me (number t) (λ n. n) (looked t (step slots (number t) 0 0 none) me)
+  looks t reached =
+      let here = reached_occurs t me.0 reached in
+      step_allowed p slots id (number t) me (λ n. n) (λ n. looking n t me.0) worker
+      (λ s r at. let n : ℕ = get_or s.words (number t) 0 in let l = low p.numbers s id me.0 r.counted at t here in
+      both_looking (λ w. IsStep p s id (number t) n me.0 w) n t me.0
+      (λ one. still_step p s id me.0 r at (number t) n (found_one t me.0) l refl refl (same_sides refl refl refl refl) refl
+      (λ j h. ⊎_elim (λ a. inl a) (λ b. ⊎_elim (λ e. inr (subst (IsAlone p.numbers (set s.words (number t) n) (set s.views id (found_one t me.0)) id) (sym e) (reached_alone p.numbers s id me.0 r.counted at r.lone t n (found_one t me.0) reached here one refl))) (λ z. absurd z) b)
+      (member_split j me.0.lone (number t ∷ []) h)))
+      (λ more. still_step p s id me.0 r at (number t) n (found_more n t me.0) l refl refl (same_sides refl refl refl refl) refl (λ j h. inl h)))
+      (looks_allowed p.numbers slots id me t here)
+
+  pub counts : me.0.over < me.0.spare → Allows (Kept p) slots id me p.numbers (λ n. (n + 1) % 2 ^ 64) (λ n m'. Told (counting n me.0) me m')
+  counts less = step_allowed p slots id p.numbers me (λ n. (n + 1) % 2 ^ 64) (λ n. counting n me.0) worker
+      (λ s r at. let n : ℕ = get_or s.words p.numbers 0 in let few = live_low p.numbers s id me.0 r.counted at in
+      both_counting (λ w. IsStep p s id p.numbers ((n + 1) % 2 ^ 64) me.0 w) n me.0
+      (live_step p s id me.0 r at ((n + 1) % 2 ^ 64) (counting_below n me.0) (counts_tally n me.0 (counting_below n me.0) refl refl refl refl) (omega (arith, few)) refl refl refl)
+      (live_step p s id me.0 r at ((n + 1) % 2 ^ 64) (counting_over n me.0) (counts_tally n me.0 (counting_over n me.0) refl refl refl refl) (omega (arith, few)) refl refl refl))
+      (counts_allowed p.numbers slots id me less)
+
+  pub ends : 0 < me.0.passes → length me.0.holds < me.0.room → Allows (Kept p) slots id me p.numbers (λ n. (n + (2 ^ 64 - 1)) % 2 ^ 64) (λ n m'. Told (ending me.0) me m')
+  ends own room = step_allowed p slots id p.numbers me (λ n. (n + (2 ^ 64 - 1)) % 2 ^ 64) (λ n. ending me.0) worker
+      (λ s r at. let n : ℕ = get_or s.words p.numbers 0 in let few = live_low p.numbers s id me.0 r.counted at in let some_ = r.counted.live in let mine = passes_le s.views id me.0 at in
+      live_step p s id me.0 r at ((n + (2 ^ 64 - 1)) % 2 ^ 64) (ending me.0) (ends_tally n me.0 (ending me.0) refl refl refl refl) (omega (arith, few, some_, mine, own)) refl refl refl)
+      (ends_allowed p.numbers slots id me own room)
+
+  pub undoes : 0 < me.0.over → 0 < me.0.passes → length me.0.holds < me.0.room → Allows (Kept p) slots id me p.numbers (λ n. (n + (2 ^ 64 - 1)) % 2 ^ 64) (λ n m'. Told (undoing me.0) me m')
+  undoes over own room = step_allowed p slots id p.numbers me (λ n. (n + (2 ^ 64 - 1)) % 2 ^ 64) (λ n. undoing me.0) worker
+      (λ s r at. let n : ℕ = get_or s.words p.numbers 0 in let few = live_low p.numbers s id me.0 r.counted at in let some_ = r.counted.live in let mine = passes_le s.views id me.0 at in
+      live_step p s id me.0 r at ((n + (2 ^ 64 - 1)) % 2 ^ 64) (undoing me.0) (ends_tally n me.0 (undoing me.0) refl refl refl refl) (omega (arith, few, some_, mine, own)) refl refl refl)
+      (undoes_allowed p.numbers slots id me over own room)
+
+  -- what is left behind a last leave stands nowhere
+  pub leaves : (t : Node) → HasHolds me.0.holds (t ∷ []) → length me.0.holds + length (children t) ≤ me.0.room + 1
+      → Allows (Kept p) slots id me (number t) (λ n. (n + (2 ^ 64 - 1)) % 2 ^ 64) (left t (step slots (number t) 1 0 none) me)
+  leaves t held room s r homes at below =
+      let here = held-in me.0.holds t held in
+      let one : AreOneEach me.0.holds = same_held p.numbers s id me.0 r.counted at in
+      let trade = leaves-trades me.0.holds (without (number t) me.0.holds ++ children t) (children t) t one here refl in
+      let count = trade.count in
+      let n : ℕ = get_or s.words (number t) 0 in
+      let m : ℕ = (n + (2 ^ 64 - 1)) % 2 ^ 64 in
+      let w : View = leaving n t me.0 in
+      let h = leaves_allowed p.numbers slots id me t (λ _. me.0.away) here (omega arith) s r.counted homes at below in
+      let told = h.4 in
+      let ruled : Ruled p.numbers (stepped s (number t) m id me.1 w keeps) =
+      subst (λ (z : View). Ruled p.numbers (stepped s (number t) m id me.1 z keeps)) told.view (rehomed p.numbers s (number t) m id me.1 h.0 h.1 keeps h.3) in
+      let wide = r.counted.width in
+      let l = low p.numbers s id me.0 r.counted at t (root_occurs t me.0.holds here) in
+      let word = get_or-set_same s.words (number t) m 0 (omega arith) in (
+        w,
+        keeps,
+        tt,
+        stepped_kept p s id (number t) m me.0 w me.1 r at worker
+              (seen_step p s id me.0 r at t m w (root_occurs t me.0.holds here) refl (same_sides refl refl refl refl) refl (λ x o. occurs_passed n x t me.0.holds here o)) ruled,
+        (told_after p s id (number t) m me w ruled told at,
+         λ last occurs. let some_ = word_some p.numbers (stepped s (number t) m id me.1 w keeps) id w ruled (set_here s.views id w (at_lt s.views id me.0 at)) t occurs in omega arith),
+      )
+
+module _ {S : Type 0} (p : Terms S) (id : ℕ) where
+  -- a worker is made out of the first token
+  pub splits : (room slots : ℕ) (v : View) → length v.holds + room ≤ v.room → 1 < v.spare → v.over < v.spare → Splits {S = S} (Kept p) id v (narrower room slots v) (part_of room slots v)
+  splits room slots v fits more less =
+      split_allowed p id v (narrower room slots v) (part_of room slots v) (record {
+        shared = omega arith;
+        bare_left = λ z. absurd (omega arith);
+        bare_right = λ z. absurd (omega arith);
+        tally = same_sides refl refl refl refl;
+        uncounted = record { made = refl; ended = refl; counts = refl; joined = refl };
+        none_lone = refl;
+        lone = λ j h. (h, λ x o. absurd o);
+        holds_left = λ x o. o;
+        holds_right = λ x o. absurd o;
+      }) (splits_allowed p.numbers id v room slots fits less)
+
+  bare_pass : (v : View) → IsBare (empty_pass v)
+  bare_pass v = record { room = refl; taken = refl; full = refl; over = refl; made = refl; ended = refl; counts = refl; joined = refl; unused = refl; used = refl; away = refl }
+
+  bare_holder : (t : Node) (v : View) → IsBare (holder t v)
+  bare_holder t v = record { room = refl; taken = refl; full = refl; over = refl; made = refl; ended = refl; counts = refl; joined = refl; unused = refl; used = refl; away = refl }
+
+  -- a pass becomes a token of its own, empty or with a direct hold
+  pub parts : (v : View) → 0 < v.spare → 0 < v.passes → length v.holds < v.room → Splits {S = S} (Kept p) id v (parting v) (empty_pass v)
+  parts v worker own room =
+      split_allowed p id v (parting v) (empty_pass v) (record {
+        shared = omega arith;
+        bare_left = λ z. absurd (omega arith);
+        bare_right = λ z. bare_pass v;
+        tally = same_sides refl refl refl refl;
+        uncounted = record { made = refl; ended = refl; counts = refl; joined = refl };
+        none_lone = refl;
+        lone = λ j h. (h, λ x o. absurd o);
+        holds_left = λ x o. o;
+        holds_right = λ x o. absurd o;
+      }) (parts_allowed p.numbers id v own room)
+
+  pub hands : (v : View) (t : Node) → 0 < v.spare → 0 < v.passes → HasHolds v.holds (t ∷ []) → Splits {S = S} (Kept p) id v (giving t v) (holder t v)
+  hands v t worker own held s r at =
+      let here = held-in v.holds t held in
+      let same : without (number t) v.holds ≡ without_node t v.holds = sym (without_node-number t v.holds here (λ u i e. same_held p.numbers s id v r.counted at u t i here e)) in
+      subst (λ (hs : List Node). Kept p record { words = s.words; homes = s.homes; views = set s.views id (record (handing t v) { holds = hs }) ++ holder t v ∷ [] }) same
+      (split_allowed p id v (handing t v) (holder t v) (record {
+        shared = omega arith;
+        bare_left = λ z. absurd (omega arith);
+        bare_right = λ z. bare_holder t v;
+        tally = same_sides refl refl refl refl;
+        uncounted = record { made = refl; ended = refl; counts = refl; joined = refl };
+        none_lone = refl;
+        lone = λ j h. let b = member_lone_but (below t) j v.lone h in (b.0, λ x o. but_apart (below t) j x b.1 (alone_out x t o));
+        holds_left = λ x o. occurs_without (number t) x v.holds o;
+        holds_right = λ x o. below_in x t v.holds (root_occurs t v.holds here) (alone_out x t o);
+      }) (hands_allowed p.numbers id v t here own) s r at)
+
+  -- a pass is taken back
+  pub draws : (other : ℕ) (v w : View) → 0 < v.spare → w.spare ≡ 0 → IsBare w → Joins {S = S} (Kept p) id v other w (drawing v w) (spent w)
+  draws other v w worker none_ bare =
+      let jm = ap (λ (l : List Tally). sum_by (λ (x : Tally). x.made) l) bare.joined in
+      let je = ap (λ (l : List Tally). sum_by (λ (x : Tally). x.ended) l) bare.joined in
+      join_allowed p id other v w (drawing v w) (record {
+        shared = omega (arith, none_);
+        bare = λ z. absurd (omega arith);
+        tally = record { made = refl; ended = refl; counts = refl; all_made = omega (arith, jm, bare.made); all_ended = omega (arith, je, bare.ended); joined = λ t h. inl h };
+        lone = λ j h. inl h;
+        holds = λ x o. occurs_split x v.holds w.holds o;
+      }) (joins_allowed p.numbers id other v w (drawing v w) (record {
+        holds = refl;
+        room = refl;
+        size = refl;
+        taken = sym (append-nil v.taken) ∙ ap (λ (z : List ℕ). v.taken ++ z) (sym bare.taken);
+        full = sym (append-nil v.full) ∙ ap (λ (z : List ℕ). v.full ++ z) (sym bare.full);
+        passes = refl;
+        limit = refl;
+        over = omega (arith, bare.over);
+        spare = omega (arith, none_);
+      }))
+
+  -- two workers become one
+  pub merges : (other : ℕ) (v w : View) → 0 < v.spare → Joins {S = S} (Kept p) id v other w (merged v w) (spent w)
+  merges other v w worker =
+      let jm = sum_by-append (λ (x : Tally). x.made) v.joined (tally_of w ∷ w.joined) in
+      let jm' = sum_by-append (λ (x : Tally). x.made) (tally_of w ∷ []) w.joined in
+      let je = sum_by-append (λ (x : Tally). x.ended) v.joined (tally_of w ∷ w.joined) in
+      let je' = sum_by-append (λ (x : Tally). x.ended) (tally_of w ∷ []) w.joined in
+      join_allowed p id other v w (merged v w) (record {
+        shared = refl;
+        bare = λ z. absurd (omega arith);
+        tally = record {
+          made = refl;
+          ended = refl;
+          counts = refl;
+          all_made = omega (arith, jm, jm');
+          all_ended = omega (arith, je, je');
+          joined = λ t h. ⊎_elim (λ a. inl a) (λ b. ⊎_elim (λ e. inr (inl e)) (λ c. inr (inr c)) b) (member_split t v.joined (tally_of w ∷ w.joined) h);
+        };
+        lone = λ j h. member_split j v.lone w.lone h;
+        holds = λ x o. occurs_split x v.holds w.holds o;
+      }) (joins_allowed p.numbers id other v w (merged v w) (record { holds = refl; room = refl; size = refl; taken = refl; full = refl; passes = refl; limit = refl; over = refl; spare = refl }))
+
+-- the rule holds at the start
+pub begins : {S : Type 0} (p : Terms S) (limit : ℕ) (slots : List ℕ) (xs : List S) → limit ≤ 2 ^ 18 → 0 < p.workers → p.workers ≤ 64
+    → Kept p (opening (zeroes (p.numbers + 1)) xs (first_view (2 ^ 24) p.numbers limit p.workers slots))
+begins p limit slots xs few some_ all = record {
+  counted = starts p.numbers limit p.workers slots xs few all;
+  workers = omega arith;
+  bare = λ id v at none_. let e : p.workers ≡ v.spare = ap (λ (z : View). z.spare) (only_one id v at) in absurd (omega (arith, e, none_, some_));
+  lone = λ id n v at h. absurd (subst (λ (z : View). Member n z.lone) (sym (only_one id v at)) h);
+  tallied = record {
+    live = let z = zero-at (p.numbers + 1) p.numbers in omega (arith, z);
+    own = λ id v at c h. absurd (subst (λ (z : View). Member c z.counts) (sym (only_one id v at)) h);
+    joined = λ id v at t ht c h. absurd (subst (λ (z : View). Member t z.joined) (sym (only_one id v at)) ht);
+  };
+}
+  where
+    only_one : (id : ℕ) (v : View) → get_elem? (first_view (2 ^ 24) p.numbers limit p.workers slots ∷ []) id ≡ some v → first_view (2 ^ 24) p.numbers limit p.workers slots ≡ v
+    only_one zero v at = some-injective (first_view (2 ^ 24) p.numbers limit p.workers slots) v at
+    only_one (suc id) v at = absurd (some-ne-none v (sym at))
