@@ -1,5 +1,5 @@
 -- What a token between calls gives its seat, and what a seat gives its token.
-use Rattle.std.proofs.Common.{◌≡◌, ℕ, ◌+◌, ◌-◌, ◌%◌, ◌^◌, ◌<◌, ◌≤◌, Bool, true, false, eqb, List, [], ◌∷◌, length, refl, sym, ap, subst, ◌∙◌, arith}
+use Rattle.std.proofs.Common.{◌≡◌, ℕ, ◌+◌, ◌-◌, ◌%◌, ◌^◌, ◌<◌, ◌≤◌, Bool, true, false, eqb, List, [], ◌∷◌, ◌++◌, length, refl, sym, ap, subst, ◌∙◌, arith}
 use Rattle.std.specs.Prelude.{if◌then◌else◌}
 use mathlib.Core.Option.{none}
 use prog.Atomic.{either}
@@ -11,11 +11,11 @@ use Rattle.node_forest.specs.Members.{Occurs}
 use Rattle.node_forest.proofs.Members.{root_occurs}
 use Rattle.count_core.specs.Holders.{Fitting}
 use Rattle.pool_rule.specs.Rules.{IsSane}
-use Rattle.pool_rule.specs.Plays.{Told, taken, shared, left}
-use Rattle.pool_rule.specs.Pools.{Terms, Kept}
+use Rattle.pool_rule.specs.Plays.{Told, taken, shared, left, looked}
+use Rattle.pool_rule.specs.Pools.{Terms, IsReached, Kept}
 use Rattle.pool_rule.specs.Trades.{HasHolds, Stands}
-use Rattle.pool_rule.specs.Views.{View, taking, noting, tried, sharing, leaving}
-use Rattle.pool_rule.proofs.Calls.{takes, shares, leaves}
+use Rattle.pool_rule.specs.Views.{View, taking, noting, tried, sharing, leaving, looking}
+use Rattle.pool_rule.proofs.Calls.{takes, shares, leaves, looks, reached_occurs}
 use Rattle.pool_rule.proofs.Door.{held-in, stands-occurs}
 use Rattle.node_pool.specs.Tokens.{only, IsWorkerView, IsToken}
 
@@ -58,6 +58,13 @@ steady-tried n t v = go (eqb n 0)
     go true = steady refl refl refl refl refl refl refl refl
     go false = steady refl refl refl refl refl refl refl refl
 
+pub steady-looking : (n : ℕ) (t : Node) (v : View) → IsSteady v (looking n t v)
+steady-looking n t v = go (eqb n 1)
+  where
+    go : (b : Bool) → IsSteady v (if b then record v { lone = v.lone ++ number t ∷ [] } else record v { looks = v.looks ++ record { number = number t; found = n; shares = v.shares } ∷ [] })
+    go true = steady refl refl refl refl refl refl refl refl
+    go false = steady refl refl refl refl refl refl refl refl
+
 -- a worker's view is a worker's again
 pub worker_again : (numbers most : ℕ) (v w : View) → IsWorkerView numbers most v → IsSteady v w → IsSane w.size w → Fitting w.size w.holds → IsWorkerView numbers most w
 worker_again numbers most v w i s sane fits = record {
@@ -87,6 +94,9 @@ low_stands numbers most v t i stands = i.fits t (stands-occurs v.holds t stands)
 pub low_held : (numbers most : ℕ) (v : View) (t : Node) → IsWorkerView numbers most v → HasHolds v.holds (t ∷ []) → number t < numbers
 low_held numbers most v t i held = i.fits t (root_occurs t v.holds (held-in v.holds t held))
 
+pub low_reached : (numbers most : ℕ) (v : View) (t : Node) → IsWorkerView numbers most v → IsReached t v → number t < numbers
+low_reached numbers most v t i reached = i.fits t (reached_occurs t v reached)
+
 -- what a worker may do on a word, told of its seat
 module _ {S : Type 0} (p : Terms S) (slots id i numbers most : ℕ) (me : Me S View) (w : View) (t : Node) (same : me.0 ≡ w) (worker : IsWorkerView numbers most w) (at : i ≡ number t) (size : p.numbers ≡ numbers) where
   spared : 0 < me.0.spare
@@ -108,3 +118,7 @@ module _ {S : Type 0} (p : Terms S) (slots id i numbers most : ℕ) (me : Me S V
   leave_at held room = subst (λ (j : ℕ). Allows (Kept p) slots id me j (λ n. (n + (2 ^ 64 - 1)) % 2 ^ 64) (left t (step slots j 1 0 none) me)) (sym at)
       (leaves p slots id me spared t (subst (λ (v : View). HasHolds v.holds (t ∷ [])) (sym same) held)
       (omega (arith, ap (λ (v : View). length v.holds) same, ap (λ (v : View). v.room) same, worker.room, room)))
+
+  pub look_at : IsReached t w → Allows (Kept p) slots id me i (λ n. n) (looked t (step slots i 0 0 none) me)
+  look_at reached = subst (λ (j : ℕ). Allows (Kept p) slots id me j (λ n. n) (λ n m'. Told (looking n t me.0) me m')) (sym at)
+      (looks p slots id me spared t (subst (IsReached t) (sym same) reached))

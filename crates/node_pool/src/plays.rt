@@ -97,3 +97,37 @@ impl<P: Naming> Join<TokenView> for Draws<P> {
 
     ghost spent = { blank 0 P.size P.limit 0 };
 }
+
+/// A worker is made out of the pool's first token, with its room and its slots.
+pub struct Hires;
+
+impl Split<TokenView> for Hires {
+    ghost use Rattle.pool_rule.specs.Views.{narrower, part_of};
+
+    ghost left = { narrower 256 16 };
+
+    ghost right = { part_of 256 16 };
+}
+
+/// Two workers become one, when the pool is closed.
+pub struct Merges<P> {
+    of: PhantomData<P>,
+}
+
+impl<P: Naming> Join<TokenView> for Merges<P> {
+    ghost use Rattle.pool_rule.specs.Views.{merged, blank};
+
+    ghost both = { merged };
+
+    ghost spent = { blank 0 P.size P.limit 0 };
+}
+
+pub struct Looks<T> {
+    node: PhantomData<T>,
+}
+
+impl<S, T: Chosen> Play<S, TokenView> for Looks<T> {
+    ghost use Rattle.pool_rule.specs.Plays.{looked};
+
+    ghost then = { looked T.node };
+}

@@ -71,7 +71,7 @@ occurs_passed n x t hs here o = ⊎_elim (λ a. occurs_without (number t) x hs a
     go true i = below_in x t hs (root_occurs t hs here) (child_below x t i)
     go false i = absurd i
 
-reached_occurs : (t : Node) (v : View) → IsReached t v → Occurs t v.holds
+pub reached_occurs : (t : Node) (v : View) → IsReached t v → Occurs t v.holds
 reached_occurs t v reach = ⊎_elim (λ a. root_occurs t v.holds a) (λ b. child_occurs t b.0 v.holds b.1 b.3) reach
 
 -- a lone number that a step on another's word leaves
