@@ -1,11 +1,12 @@
 -- Paths down a tree, one edge at a time.
-use Rattle.std.proofs.Common.{◌≡◌, ℕ, zero, suc, inl, inr, ◌+◌, ◌<◌, List, [], ◌∷◌, length, drop, get_or, refl, sym, ap, subst, ◌∙◌, arith, add-one}
+use Rattle.std.proofs.Common.{◌≡◌, Bool, true, false, eqb, ◌++◌, ℕ, zero, suc, inl, inr, ◌+◌, ◌<◌, List, [], ◌∷◌, length, drop, get_or, refl, sym, ap, subst, ◌∙◌, arith, add-one}
+use Rattle.std.specs.Prelude.{if◌then◌else◌}
 use Rattle.std.proofs.lemmas.List.{get_or_default}
 use Rattle.node_forest.specs.Forest.{children}
 use Rattle.node_forest.specs.Label.{Node, number}
 use Rattle.count_core.proofs.Places.{in_item}
 use Rattle.pool_rule.specs.Pools.{IsReached}
-use Rattle.pool_rule.specs.Views.{View}
+use Rattle.pool_rule.specs.Views.{View, looking}
 use Rattle.pool_rule.proofs.Calls.{reached_occurs}
 use Rattle.node_pool.specs.Paths.{child_at, node_at, IsPathIn}
 
@@ -35,3 +36,10 @@ next_place v root path t i p low place at =
     let next : drop i path ≡ p ∷ drop (i + 1) path = drop-next path i low ∙ (λ q. sym place q ∷ drop (sym (add-one i) q) path) in
     let steps : IsPathIn v.lone t (p ∷ drop (i + 1) path) = subst (IsPathIn v.lone t) next at.down in
     steps.1
+
+pub looking-holds : (n : ℕ) (t : Node) (v w : View) → w ≡ looking n t v → w.holds ≡ v.holds
+looking-holds n t v w e = ap (λ (z : View). z.holds) e ∙ go (eqb n 1)
+  where
+    go : (b : Bool) → (if b then record v { lone = v.lone ++ number t ∷ [] } else record v { looks = v.looks ++ record { number = number t; found = n; shares = v.shares } ∷ [] }).holds ≡ v.holds
+    go true = refl
+    go false = refl

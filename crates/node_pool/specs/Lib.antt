@@ -5,4 +5,5 @@ pub mod Closes
 pub mod Passes
 pub mod Paths
 pub mod Starts
+pub mod Opened
 pub mod Tokens

@@ -25,6 +25,7 @@ impl<P: Naming, B: Releaser> Pool<P, B> {
         requires held { HasHolds w.old.holds (root.now ∷ []) }
         requires path { IsPathIn w.old.lone root.now path.now }
         ensures looked { IsLooked result (node_at root.now path.now) w.old w.new }
+        ensures holds { w.new.holds ≡ w.old.holds }
     {
         let mut edge = root;
         for i in 0..path.len() {
@@ -38,6 +39,7 @@ impl<P: Naming, B: Releaser> Pool<P, B> {
         requires node { edge.now ≡ T.node }
         requires reached { IsReached T.node w.old }
         ensures looked { w.new ≡ looking result T.node w.old }
+        ensures holds { w.new.holds ≡ w.old.holds }
     {
         let mut seat: TokenSeat<B> = mem::replace(&mut w.badge, Badge::blank()).into_seat();
         let found = self

@@ -97,6 +97,8 @@ fn unhoused<B: Releaser>(slots: Vec<Option<Outlet<B>>>, mut returned: Vec<B>) ->
 }
 
 impl<B: Releaser> Opened<B> {
+    ghost use Rattle.node_pool.specs.Opened.{opened_table, opened_numbers, opened_passes, opened_workers};
+
     /// A pool with so many numbers, at most so many live passes, so many workers and these boxes. All room that later calls need
     /// is reserved here.
     pub fn start(
@@ -111,9 +113,9 @@ impl<B: Releaser> Opened<B> {
         requires workers { (0 < workers) × (workers ≤ 64) }
         requires boxes { length releasers.items ≤ 256 }
         requires calls { All (λ b. B.calls_of b < 2 ^ 64 - 1) releasers.items }
-        ensures numbers { IfOk result (λ o. o.numbers ≡ numbers) }
-        ensures passes { IfOk result (λ o. o.passes ≡ passes) }
-        ensures workers { IfOk result (λ o. o.workers ≡ workers) }
+        ensures numbers { IfOk result (λ o. opened_numbers o ≡ numbers) }
+        ensures passes { IfOk result (λ o. opened_passes o ≡ passes) }
+        ensures workers { IfOk result (λ o. opened_workers o ≡ workers) }
     {
         let count = releasers.len();
         let Ok(room) = reserve(alloc, numbers as usize, count) else {
@@ -155,10 +157,10 @@ impl<B: Releaser> Opened<B> {
         self,
         alloc: Global,
     ) -> Result<(Pool<P, B>, Vec<Worker<P>>), PoolRefused<B>>
-        requires table { self.table.shared.table_id ≡ P.table }
-        requires numbers { self.numbers ≡ P.size }
-        requires passes { self.passes ≡ P.limit }
-        requires workers { self.workers ≡ P.workers }
+        requires table { opened_table self ≡ P.table }
+        requires numbers { opened_numbers self ≡ P.size }
+        requires passes { opened_passes self ≡ P.limit }
+        requires workers { opened_workers self ≡ P.workers }
         ensures workers { IfOk result (λ r. r.1.items ≡ new_workers P.size P.limit P.workers (slot_count P.workers P.table.slots)) }
     {
         let Opened {

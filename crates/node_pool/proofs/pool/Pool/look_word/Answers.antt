@@ -1,7 +1,9 @@
 -- What the proof of `Pool::look_word` needs beyond the search.
 use Rattle.std.proofs.Common.{◌≡◌, ◌+◌, sym, ap, ◌∙◌, subst, arith}
 use Rattle.node_forest.specs.Label.{number}
-use Rattle.node_pool.specs.Tokens.{IsWorkerView}
+use Rattle.pool_rule.specs.Views.{looking}
+use Rattle.node_pool.specs.Tokens.{only, IsWorkerView}
+use Rattle.node_pool.proofs.Walks.{looking-holds}
 use Rattle.node_pool.proofs.Seats.{seat_view, low_reached, look_at, steady-looking, worker_told}
 use Rattle.node_pool.proofs.pool.Pool.look_word.Goals as goal
 
@@ -33,3 +35,9 @@ invariant_of-w g c =
           (c.into_badge.ensures.0 ∙ (f.0 ∙ (h.0 ∙ (ap (λ b. b.table_id) c.replace.ensures.value ∙ i.table))))
           c.into_badge.ensures.2,
     )
+
+pub returns-clause-holds : goal.returns-clause-holds
+returns-clause-holds g c =
+    let h = c.into_seat-seat.ensures in
+    let is : c.into_seat-seat.result.me.0 ≡ c.args.w.now = seat_view _ _ _ (ap (λ b. b.views) (sym c.replace.ensures.value) ∙ h.2) c.w.view_is in
+    looking-holds c.load-found.result g.T.Chosen.node c.args.w.now _ (ap only c.into_badge.ensures.2 ∙ (c.load-found.ensures.2.view ∙ ap (looking c.load-found.result g.T.Chosen.node) is))
