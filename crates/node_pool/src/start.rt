@@ -49,11 +49,7 @@ struct Room<B: Releaser> {
     returned: Vec<B>,
 }
 
-fn reserve<B: Releaser>(
-    alloc: Global,
-    numbers: usize,
-    boxes: usize,
-) -> Result<Room<B>, AllocError>
+fn reserve<B: Releaser>(alloc: Global, numbers: usize, boxes: usize) -> Result<Room<B>, AllocError>
     requires { numbers ≤ 2 ^ 18 }
     ensures words { IfOk result (λ r. r.words.items ≡ zeroes (numbers + 1)) }
     ensures slots { IfOk result (λ r. (vec_len r.slots ≡ 0) × (boxes ≤ vec_capacity r.slots)) }

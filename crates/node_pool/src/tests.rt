@@ -67,7 +67,10 @@ fn filled<P: Naming>(alloc: Global, opened: Opened<Boxes>) -> Option<((u32, u32)
         return None;
     };
     let answer = until_refused(alloc, &pool, &mut workers[0])?;
-    let Closed { in_use, releasers: _ } = pool.close(workers);
+    let Closed {
+        in_use,
+        releasers: _,
+    } = pool.close(workers);
     Some((answer, in_use))
 }
 
@@ -151,15 +154,17 @@ fn worked<P: Naming>(
     let left = left_twice(alloc, &pool, &mut workers[0])?;
     let found = third_pass(&pool, &mut workers[1]);
     let looked = looks(alloc, &pool, &mut workers[2])?;
-    let Closed { in_use, releasers: _ } = pool.close(workers);
+    let Closed {
+        in_use,
+        releasers: _,
+    } = pool.close(workers);
     Some((left, found, looked, in_use))
 }
 
 #[test]
 fn the_second_leaver_is_the_last_and_the_third_pass_finds_two(rt: HostRuntime) {
     let opened = opened(rt.alloc(), 8, 2, 3).expect(&rt, "memory");
-    let (left, found, looked, in_use) =
-        worked::<Brand>(rt.alloc(), opened).expect(&rt, "memory");
+    let (left, found, looked, in_use) = worked::<Brand>(rt.alloc(), opened).expect(&rt, "memory");
     assert_eq!(rt; left, (Left::Shared, Left::Last));
     assert_eq!(rt; found, Some(2));
     assert_eq!(rt; looked, (true, false, true));
