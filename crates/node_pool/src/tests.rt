@@ -1,13 +1,14 @@
 //! Pools on one thread, and on four.
-ghost use Rattle.std.specs.Prelude.{◌≡◌, ◌+◌, ◌<◌, ◌≤◌, [], ◌∷◌, length, IfOk, IfErr, IfSome};
+ghost use Rattle.std.specs.Prelude.{◌≡◌, ◌+◌, ◌<◌, ◌≤◌, [], ◌∷◌, length, IfOk, IfErr, IfSome, IsTrue};
 ghost use Rattle.node_forest.specs.Forest.{children};
-ghost use Rattle.pool_rule.specs.Trades.{Trades};
+ghost use Rattle.pool_rule.specs.Trades.{Trades, SameHolds, HasHolds};
 ghost use Rattle.node_pool.specs.Opened.{opened_table, opened_numbers, opened_passes, opened_workers};
 
 use crate::{Body, Closed, Edge, Left, Naming, Opened, PassLimit, Pool, TakeError, Worker};
 use cord_port::LogReleaser;
 use std::alloc::Global;
 use std::marker::Brand;
+use std::thread::{self, Threads};
 
 type Boxes = LogReleaser;
 
@@ -169,4 +170,173 @@ fn the_second_leaver_is_the_last_and_the_third_pass_finds_two(rt: HostRuntime) {
     assert_eq!(rt; found, Some(2));
     assert_eq!(rt; looked, (true, false, true));
     assert_eq!(rt; in_use, 0);
+}
+
+/// Takes a flat and leaves it again. False where memory was wanting.
+fn own_flat<P: Naming>(alloc: Global, pool: &Pool<P, Boxes>, w: &mut Worker<P>) -> bool
+    requires room { length w.old.holds < 256 }
+    ensures same { SameHolds w.old.holds w.new.holds }
+{
+    let Ok(own) = take_flat(alloc, pool, w) else {
+        return false;
+    };
+    pool.leave(w, &own);
+    true
+}
+
+/// Shares the edge, takes and leaves a flat of its own, and leaves the edge.
+fn round<P: Naming>(alloc: Global, pool: &Pool<P, Boxes>, w: &mut Worker<P>, edge: &Edge) -> bool
+    requires leaf { children edge.now ≡ [] }
+    requires held { HasHolds w.old.holds (edge.now ∷ []) }
+    requires room { length w.old.holds < 200 }
+    ensures same { SameHolds w.old.holds w.new.holds }
+{
+    pool.share(w, edge);
+    let took = own_flat(alloc, pool, w);
+    pool.leave(w, edge);
+    took
+}
+
+fn rounds<P: Naming>(
+    alloc: Global,
+    pool: &Pool<P, Boxes>,
+    mut w: Worker<P>,
+    edge: &Edge,
+) -> (Worker<P>, bool)
+    requires leaf { children edge.now ≡ [] }
+    requires held { HasHolds w.holds (edge.now ∷ []) }
+    requires room { length w.holds < 200 }
+    ensures same { SameHolds w.holds result.0.holds }
+{
+    for _ in 0..100000u32 {
+        if !round(alloc, pool, &mut w, edge) {
+            return (w, false);
+        }
+    }
+    (w, true)
+}
+
+/// Another worker gets a hold of the edge. False where a pass was refused.
+fn give<P: Naming>(
+    pool: &Pool<P, Boxes>,
+    from: &mut Worker<P>,
+    to: &mut Worker<P>,
+    edge: &Edge,
+) -> bool
+    requires held { HasHolds from.old.holds (edge.now ∷ []) }
+    requires room { length from.old.holds < 200 }
+    requires empty { to.old.holds ≡ [] }
+    ensures kept { HasHolds from.new.holds (edge.now ∷ []) × (length from.new.holds ≡ length from.old.holds) }
+    ensures given { IsTrue result → HasHolds to.new.holds (edge.now ∷ []) × (length to.new.holds ≡ 1) }
+{
+    let Ok(mut pass) = pool.pass(from) else {
+        return false;
+    };
+    pool.share(from, edge);
+    pool.fill(from, &mut pass, edge);
+    pool.draw(to, &mut pass);
+    pool.end(to, pass);
+    true
+}
+
+fn two<P: Naming + Send + Sync, R: Threads + Sync>(
+    rt: &R,
+    alloc: Global,
+    pool: &Pool<P, Boxes>,
+    one: Worker<P>,
+    other: Worker<P>,
+    edge: &Edge,
+) -> ((Worker<P>, bool), (Worker<P>, bool))
+    requires leaf { children edge.now ≡ [] }
+    requires one { HasHolds one.holds (edge.now ∷ []) × (length one.holds < 200) }
+    requires other { HasHolds other.holds (edge.now ∷ []) × (length other.holds < 200) }
+    ensures one { SameHolds one.holds result.0.0.holds }
+    ensures other { SameHolds other.holds result.1.0.holds }
+{
+    thread::join(
+        rt,
+        move || -> (Worker<P>, bool)
+            requires { (children edge.now ≡ []) × HasHolds one.holds (edge.now ∷ []) × (length one.holds < 200) }
+            ensures { SameHolds one.holds result.0.holds }
+        { rounds(alloc, pool, one, edge) },
+        move || -> (Worker<P>, bool)
+            requires { (children edge.now ≡ []) × HasHolds other.holds (edge.now ∷ []) × (length other.holds < 200) }
+            ensures { SameHolds other.holds result.0.holds }
+        { rounds(alloc, pool, other, edge) },
+    )
+}
+
+/// Four threads share and leave one edge. Whether all found memory, and how many numbers were in use at the end.
+fn shared_by_four<P: Naming + Send + Sync, R: Threads + Sync>(
+    rt: &R,
+    alloc: Global,
+    opened: Opened<Boxes>,
+) -> Option<(bool, u32)>
+    requires table { opened_table opened ≡ P.table }
+    requires numbers { opened_numbers opened ≡ P.size }
+    requires passes { opened_passes opened ≡ P.limit }
+    requires workers { (opened_workers opened ≡ P.workers) × (P.workers ≡ 4) }
+{
+    let Ok((pool, mut workers)) = opened.named::<P>(alloc) else {
+        return None;
+    };
+    let Ok(edge) = take_flat(alloc, &pool, &mut workers[0]) else {
+        return None;
+    };
+    let Some(mut d) = workers.pop() else {
+        return None;
+    };
+    let Some(mut c) = workers.pop() else {
+        return None;
+    };
+    let Some(mut b) = workers.pop() else {
+        return None;
+    };
+    let Some(mut a) = workers.pop() else {
+        return None;
+    };
+    if !give(&pool, &mut a, &mut b, &edge) {
+        return None;
+    }
+    if !give(&pool, &mut a, &mut c, &edge) {
+        return None;
+    }
+    if !give(&pool, &mut a, &mut d, &edge) {
+        return None;
+    }
+    let shared = &pool;
+    let same = &edge;
+    let (first, second) = thread::join(
+        rt,
+        move || -> ((Worker<P>, bool), (Worker<P>, bool))
+            requires { (children same.now ≡ []) × HasHolds a.holds (same.now ∷ []) × (length a.holds < 200) × HasHolds b.holds (same.now ∷ []) × (length b.holds < 200) }
+            ensures { SameHolds a.holds result.0.0.holds × SameHolds b.holds result.1.0.holds }
+        { two(rt, alloc, shared, a, b, same) },
+        move || -> ((Worker<P>, bool), (Worker<P>, bool))
+            requires { (children same.now ≡ []) × HasHolds c.holds (same.now ∷ []) × (length c.holds < 200) × HasHolds d.holds (same.now ∷ []) × (length d.holds < 200) }
+            ensures { SameHolds c.holds result.0.0.holds × SameHolds d.holds result.1.0.holds }
+        { two(rt, alloc, shared, c, d, same) },
+    );
+    let ((mut a, one), (mut b, two)) = first;
+    let ((mut c, three), (mut d, four)) = second;
+    pool.leave(&mut a, &edge);
+    pool.leave(&mut b, &edge);
+    pool.leave(&mut c, &edge);
+    pool.leave(&mut d, &edge);
+    workers.push_reserved(a);
+    workers.push_reserved(b);
+    workers.push_reserved(c);
+    workers.push_reserved(d);
+    let Closed {
+        in_use,
+        releasers: _,
+    } = pool.close(workers);
+    Some((one && two && three && four, in_use))
+}
+
+#[test]
+fn four_threads_leave_a_shared_edge_unused(rt: HostRuntime) {
+    let opened = opened(rt.alloc(), 8, 2, 4).expect(&rt, "memory");
+    let answer = shared_by_four::<Brand, HostRuntime>(&rt, rt.alloc(), opened);
+    assert_eq!(rt; answer, Some((true, 0)));
 }
