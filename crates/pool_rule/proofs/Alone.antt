@@ -52,7 +52,8 @@ but_apart nodes n x none_ i e = absurd (omega (arith, times_pos n x nodes i e, n
 pub record IsLoneStep (numbers : ℕ) (words : List ℕ) (views : List View) (id n m : ℕ) (v w : View) : Type 0 where
   pub kept : (j : ℕ) → Member j w.lone → (Member j v.lone × ((j ≢ n) ⊎ (m ≡ get_or words n 0))) ⊎ IsAlone numbers (set words n m) (set views id w) id j
   pub touch : (other : ℕ) → other ≢ id → IsAlone numbers words views other n → m ≡ get_or words n 0
-  pub new : (x : Node) → Occurs x w.holds → Occurs x v.holds ⊎ ((number x ≡ n) × (get_or words n 0 ≡ 0))
+  -- each number in the trees was there before, or was taken
+  pub new : (x : Node) → Occurs x w.holds → ((y : Node) × Occurs y v.holds × (number y ≡ number x)) ⊎ ((number x ≡ n) × (get_or words n 0 ≡ 0))
 
 one_still : (words : List ℕ) (n m j : ℕ) → n < length words → (j ≢ n) ⊎ (m ≡ get_or words n 0) → get_or words j 0 ≡ 1 → get_or (set words n m) j 0 ≡ 1
 one_still words n m j wide why one =
@@ -78,7 +79,7 @@ lone_step numbers words views id n m v w wide at s r i j u here h =
       one = dite (ℕ_discrete j n) (λ e. one_still words n m j wide (inr (is_n e)) a.one) (λ ne. one_still words n m j wide (inl ne) a.one);
       apart = λ o y there ne x occurs. ⊎_elim
           (λ p. let here' : Occurs x w.holds = subst (λ (z : View). Occurs x z.holds) (sym p.1) occurs in
-          ⊎_elim (λ old. a.apart id v at (λ z. ne (p.0 ∙ z)) x old)
+          ⊎_elim (λ old e. a.apart id v at (λ z. ne (p.0 ∙ z)) old.0 old.1 (old.2 ∙ e))
           (λ fresh e. let zero_ : get_or words j 0 ≡ 0 = ap (λ (z : ℕ). get_or words z 0) (sym e ∙ fresh.0) ∙ fresh.1 in absurd (omega (arith, zero_, a.one)))
           (s.new x here'))
           (λ p. a.apart o y p.1 ne x occurs)

@@ -94,7 +94,7 @@ module _ {S : Type 0} (p : Terms S) (s : State S View) (id : ℕ) (v : View) (r 
         lone = record {
           kept = λ j h. let b = but_lone t j v.lone (subst (λ (ns : List ℕ). Member j ns) lone h) in inl (b.0, inl b.1);
           touch = λ o ne a. absurd (a.apart id v at (λ e. ne (sym e)) t here refl);
-          new = λ x o. inl (down x o);
+          new = λ x o. inl (x, down x o, refl);
         };
       }
 
@@ -109,7 +109,7 @@ module _ {S : Type 0} (p : Terms S) (s : State S View) (id : ℕ) (v : View) (r 
     lone = record {
       kept = λ j h. ⊎_elim (λ a. inl (a, inr same)) (λ b. inr b) (lone j h);
       touch = λ o ne a. same;
-      new = λ x o. inl (subst (λ (hs : List Node). Occurs x hs) holds o);
+      new = λ x o. inl (x, subst (λ (hs : List Node). Occurs x hs) holds o, refl);
     };
   }
 
@@ -123,8 +123,8 @@ module _ {S : Type 0} (p : Terms S) (s : State S View) (id : ℕ) (v : View) (r 
       kept = λ j h. inl (h, inl (λ e. let one = (r.lone id j v at h).one in let zero_ : get_or s.words j 0 ≡ 0 = ap (λ (z : ℕ). get_or s.words z 0) e ∙ free in absurd (omega (arith, one, zero_))));
       touch = λ o ne a. absurd (omega (arith, a.one, free));
       new = λ x o. ⊎_elim
-          (λ a. inl (occurs_without_all x (children t) v.holds a))
-          (λ b. ⊎_elim (λ e. inr (ap number e, free)) (λ c. inl (occurs_among x (children t) v.holds (held_in (children t) v.holds held) c)) (below_child x t (alone_out x t b)))
+          (λ a. inl (x, occurs_without_all x (children t) v.holds a, refl))
+          (λ b. ⊎_elim (λ e. inr (ap number e, free)) (λ c. inl (x, occurs_among x (children t) v.holds (held_in (children t) v.holds held) c, refl)) (below_child x t (alone_out x t b)))
           (occurs_split x (without_all (children t) v.holds) (t ∷ []) o);
     };
   }
@@ -139,7 +139,7 @@ module _ {S : Type 0} (p : Terms S) (s : State S View) (id : ℕ) (v : View) (r 
     lone = record {
       kept = λ j h. let mine = subst (λ (ns : List ℕ). Member j ns) lone h in inl (mine, inl (λ e. absurd (omega (arith, e, (r.lone id j v at mine).low))));
       touch = λ o ne a. absurd (omega (arith, a.low));
-      new = λ x o. inl (subst (λ (hs : List Node). Occurs x hs) holds o);
+      new = λ x o. inl (x, subst (λ (hs : List Node). Occurs x hs) holds o, refl);
     };
   }
 
