@@ -1,6 +1,7 @@
 //! How a pool ends.
 ghost use Rattle.std.specs.Prelude.{◌≡◌, ◌+◌, ◌-◌, ◌^◌, ◌<◌, ◌≤◌, length, vec_len, vec_capacity};
-ghost use Rattle.node_pool.specs.Closes.{IsAllIdle, IsWhole};
+ghost use Rattle.pool_rule.specs.Pools.{IsKnown};
+ghost use Rattle.node_pool.specs.Closes.{IsAllIdle, IsWhole, AreCountsWithin, AreTakenByWorkers};
 
 use crate::naming::Naming;
 use crate::outlet::Outlet;
@@ -26,6 +27,8 @@ impl<P: Naming, B: Releaser> Pool<P, B> {
     pub fn close(self, workers: Vec<Worker<P>>) -> Closed<B>
         requires all { length workers.items ≡ P.workers }
         ensures idle { IsAllIdle workers.items → result.in_use ≡ 0 }
+        ensures counts { AreCountsWithin workers.items }
+        ensures taken { AreTakenByWorkers workers.items }
     {
         let Pool {
             table,
@@ -70,6 +73,7 @@ pub(crate) fn emptied<B: Releaser>(
     requires numbers { (table.shared.table_id.words ≡ numbers + 1) × (table.shared.key.numbers ≡ numbers) × (numbers < 2 ^ 32) }
     requires room { (vec_len returned ≡ 0) × (table.shared.table_id.slots ≤ vec_capacity returned) }
     ensures idle { IsWhole table.shared.key.workers seat.me.0 → result.0 ≡ 0 }
+    ensures known { seat.me.0.spare ≡ table.shared.key.workers → IsKnown seat.me.0 }
 {
     let mut returned = returned;
     let slots = table.slot_count();

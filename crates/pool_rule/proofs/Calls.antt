@@ -35,7 +35,7 @@ use Rattle.pool_rule.proofs.Tokens.{zero-at, starts, splits_allowed, joins_allow
 use Rattle.pool_rule.proofs.Worlds.{at_lt}
 
 -- no count, no joined token
-same_sides : {v w : View} → w.made ≡ v.made → w.ended ≡ v.ended → w.counts ≡ v.counts → w.joined ≡ v.joined → SameTally v w
+pub same_sides : {v w : View} → w.made ≡ v.made → w.ended ≡ v.ended → w.counts ≡ v.counts → w.joined ≡ v.joined → SameTally v w
 same_sides a b c d = record { made = a; ended = b; counts = c; joined = d }
 
 both_tried : (P : View → Type 0) (n : ℕ) (t : Node) (v : View) → (n ≡ 0 → P (taking t v)) → (n ≢ 0 → P (noting (number t) v)) → P (tried n t v)
@@ -79,7 +79,7 @@ but_lone : (t : Node) (j : ℕ) (ns : List ℕ) → Member j (lone_but (t ∷ []
 but_lone t j ns h = let r = member_lone_but (t ∷ []) j ns h in (r.0, λ e. but_apart (t ∷ []) j t r.1 (inl refl) (sym e))
 
 module _ {S : Type 0} (p : Terms S) (s : State S View) (id : ℕ) (v : View) (r : Kept p s) (at : get_elem? s.views id ≡ some v) where
-  live_same : (i m : ℕ) → i < p.numbers → get_or (set s.words i m) p.numbers 0 + 0 ≡ get_or s.words p.numbers 0 + 0
+  pub live_same : (i m : ℕ) → i < p.numbers → get_or (set s.words i m) p.numbers 0 + 0 ≡ get_or s.words p.numbers 0 + 0
   live_same i m l = let e = get_or-set_other s.words i p.numbers m 0 (λ z. omega (arith, z, l)) in omega (arith, e)
 
   -- a step on the word of a node that the token sees

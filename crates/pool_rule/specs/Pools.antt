@@ -9,7 +9,7 @@ use Rattle.node_forest.specs.Forest.{children}
 use Rattle.node_forest.specs.Members.{In, Occurs}
 use Rattle.pool_rule.specs.Notes.{Count, Tally}
 use Rattle.pool_rule.specs.Views.{View}
-use Rattle.pool_rule.specs.Rules.{spares, Ruled}
+use Rattle.pool_rule.specs.Rules.{spares, Among, Ruled}
 
 -- a releaser's box as it was handed in: how often it was called, and the latest length
 pub record Handed : Type 0 where
@@ -108,3 +108,11 @@ pub record Kept {S : Type 0} (p : Terms S) (s : State S View) : Type 0 where
   pub bare : AreBare s.views
   pub lone : AreLone p.numbers s.words s.views
   pub tallied : Tallied (slice_index s.words p.numbers) s.views
+
+-- ---- a token that is all workers of a pool
+-- what the counted steps of its workers found is bounded by what all of them made and ended, and what their takes found in use was
+-- taken by one of them
+pub record IsKnown (v : View) : Type 0 where
+  pub own : (c : Count) → Member c v.counts → IsWithin (made_by v) (ended_by v) v.made v.ended c
+  pub joined : (t : Tally) → Member t v.joined → (c : Count) → Member c t.counts → IsWithin (made_by v) (ended_by v) t.made t.ended c
+  pub taken : (n : ℕ) → Among n v.full → Among n v.taken

@@ -11,7 +11,7 @@ ghost use Rattle.count_core.specs.Views.{AreHeld, without, without_all};
 ghost use Rattle.count_core.specs.Steps.{zeroes};
 ghost use Rattle.pool_rule.specs.Views.{View, first_view, counting, ending, undoing, narrower, part_of, parting, empty_pass, giving, holder, drawing, merged, spent};
 ghost use Rattle.pool_rule.specs.Rules.{Ruled};
-ghost use Rattle.pool_rule.specs.Pools.{Terms, IsBare, IsReached, made_by, ended_by, Kept};
+ghost use Rattle.pool_rule.specs.Pools.{Terms, IsBare, IsReached, IsKnown, made_by, ended_by, Kept};
 ghost use Rattle.pool_rule.specs.Plays.{AreOneEach, Told, taken, shared, left, looked};
 ghost use Rattle.pool_rule.specs.Steps.{AreCoreSteps};
 ghost use Rattle.pool_rule.specs.Trades.{Trades, HasHolds, Stands};
@@ -56,6 +56,11 @@ pub fn tokens_divide<S>()
 /// Where one token has the shares of all workers, holds nothing and ended the passes that it made, no number is in use.
 pub fn idle_pools_are_empty<S>()
     ensures { (p : Terms S) (s : State S View) (id : ℕ) (v : View) → Kept p s → get_elem? s.views id ≡ some v → v.spare ≡ p.workers → v.passes ≡ 0 → made_by v ≡ ended_by v → v.holds ≡ [] → (n : ℕ) → n < p.numbers → slice_index s.words n ≡ 0 }
+{}
+
+/// What a token that is all workers of a pool knows of the steps of all of them.
+pub fn whole_tokens_know_all_steps<S>()
+    ensures { (p : Terms S) (s : State S View) (id : ℕ) (v : View) → Kept p s → get_elem? s.views id ≡ some v → v.spare ≡ p.workers → IsKnown v }
 {}
 
 /// What those who use the pool know of their holds by weights is what the steps ask for, and what the steps tell is a trade of

@@ -1,7 +1,7 @@
 -- What the proof of `emptied` needs beyond the search.
 use Rattle.std.proofs.Common.{rules, arith, ◌≡◌, ℕ, ◌<◌, ◌≤◌, ◌+◌, get_or, true, false, ap, sym, subst, ◌∙◌, below_more, get_or-set_other, get_or-set_same}
 use Rattle.std.specs.Slots.{slots_filled, slots_counts, slots_len}
-use Rattle.node_pool.proofs.Closing.{zero_word}
+use Rattle.node_pool.proofs.Closing.{zero_word, known_at}
 use Rattle.node_pool.proofs.close.emptied.Goals as goal
 
 pub loop-n-preserved : goal.loop-n-preserved
@@ -39,3 +39,6 @@ loop-i-preserved g c =
       full = λ k a b. ap (λ f. get_or f k false) t.others.1 ∙ (get_or-set_other before i k false false (λ e. omega (arith, a, e)) ∙ inv.full k (omega (arith, a)) (subst (λ (z : ℕ). k < z) t.others.2 b));
       empty = λ k a. ap (λ f. get_or f k false) t.others.1 ∙ below_more (λ (j : ℕ). get_or (Rattle.std.proofs.Common.set before i false) j false ≡ false) i (λ j l. get_or-set_other before i j false false (λ e. omega (arith, l, e)) ∙ inv.empty j l) (get_or-set_same before i false false (omega (arith, len, long, counts.1, c.slot_count-slots.ensures))) k a;
     }
+
+pub returns-clause-known : goal.returns-clause-known
+returns-clause-known g c = λ all. known_at _ _ _ _ _ c.close_with-closed.ensures.values.2 all
