@@ -1,17 +1,16 @@
 -- Lone numbers after steps, and after tokens are divided and joined.
-use Rattle.std.proofs.Common.{◌≡◌, ◌≢◌, ◌⊎◌, inl, inr, ⊎_elim, Bool, true, false, eqb, ℕ, zero, suc, ◌+◌, ◌<◌, ◌≤◌, List, [], ◌∷◌, ◌++◌, length, map, set, get_or, refl, sym, ◌∙◌, ap, subst, arith, length-set, get_or-set_same, get_or-set_other}
+use Rattle.std.proofs.Common.{◌≡◌, ◌≢◌, ◌⊎◌, inl, inr, ⊎_elim, Bool, true, false, eqb, ℕ, zero, suc, ◌<◌, List, [], ◌∷◌, ◌++◌, length, map, set, get_or, refl, sym, ◌∙◌, ap, subst, arith, length-set, get_or-set_same, get_or-set_other}
 use Rattle.std.proofs.lemmas.Bool.{eqb-true}
 use mathlib.Core.Logic.{dite}
-use mathlib.Core.Option.{some, some-injective, some-ne-none}
+use mathlib.Core.Option.{some}
 use native.Mathlib.Decide.{ℕ_discrete}
 use lib.ListN.{get_elem?}
 use Rattle.atomic_table.specs.Table.{State}
-use Rattle.atomic_table.proofs.Lists.{at_set, at_snoc, set_else}
-use Rattle.node_forest.specs.Forest.{children, below}
+use Rattle.atomic_table.proofs.Lists.{at_set, at_snoc}
 use Rattle.node_forest.specs.Label.{Node, number}
 use Rattle.node_forest.specs.Members.{In, Occurs}
-use Rattle.node_forest.specs.Counts.{is, times}
-use Rattle.node_forest.proofs.Counts.{is_one, times_pos}
+use Rattle.node_forest.specs.Counts.{times}
+use Rattle.node_forest.proofs.Counts.{times_pos}
 use Rattle.node_forest.proofs.Members.{occurs_split}
 use Rattle.count_core.specs.Steps.{roots, word_at}
 use Rattle.count_core.proofs.Lone.{lone_root, lone_child}
@@ -22,7 +21,7 @@ use Rattle.pool_rule.specs.Pools.{Member, IsAlone, AreLone, IsReached}
 use Rattle.pool_rule.specs.Rules.{holds_of, world, Ruled}
 use Rattle.pool_rule.specs.Views.{View, spent}
 use Rattle.pool_rule.proofs.Steps.{low}
-use Rattle.pool_rule.proofs.Worlds.{at_lt, held_at, word_world, width_world, places_world}
+use Rattle.pool_rule.proofs.Worlds.{at_lt, held_at, word_world, places_world}
 
 -- ---- lists of lone numbers
 pub member_lone_but : (nodes : List Node) (n : ℕ) (ns : List ℕ) → Member n (lone_but nodes ns) → Member n ns × (times n nodes ≡ 0)

@@ -241,9 +241,11 @@ module _ {S : Type 0} (p : Terms S) (slots id : ℕ) (me : Me S View) (worker : 
         keeps,
         tt,
         stepped_kept p s id (number t) m me.0 w me.1 r at worker
-              (seen_step p s id me.0 r at t m w (root_occurs t me.0.holds here) refl (same_sides refl refl refl refl) refl (λ x o. occurs_passed n x t me.0.holds here o)) ruled,
-        (told_after p s id (number t) m me w ruled told at,
-         λ last occurs. let some_ = word_some p.numbers (stepped s (number t) m id me.1 w keeps) id w ruled (set_here s.views id w (at_lt s.views id me.0 at)) t occurs in omega arith),
+            (seen_step p s id me.0 r at t m w (root_occurs t me.0.holds here) refl (same_sides refl refl refl refl) refl (λ x o. occurs_passed n x t me.0.holds here o)) ruled,
+        (
+          told_after p s id (number t) m me w ruled told at,
+          λ last occurs. let some_ = word_some p.numbers (stepped s (number t) m id me.1 w keeps) id w ruled (set_here s.views id w (at_lt s.views id me.0 at)) t occurs in omega arith,
+        ),
       )
 
 module _ {S : Type 0} (p : Terms S) (id : ℕ) where

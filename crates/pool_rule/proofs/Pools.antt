@@ -1,13 +1,13 @@
 -- The whole rule after a step of one token, and after tokens are divided and joined.
 use Rattle.std.proofs.Common.{◌≡◌, ◌≢◌, ◌⊎◌, ⊎_elim, ℕ, ◌+◌, ◌<◌, List, [], ◌∷◌, ◌++◌, length, set, get_or, refl, sym, ap, subst, ◌∙◌, arith}
-use mathlib.Core.Option.{some, none, some-injective}
+use mathlib.Core.Option.{some}
 use lib.ListN.{get_elem?}
 use Rattle.atomic_table.specs.Table.{State, Me, Act, keeps, stepped, Allows, Splits, Joins}
 use Rattle.atomic_table.proofs.Lists.{at_set, at_snoc, set_here, set_else}
 use Rattle.node_forest.specs.Label.{Node, number}
 use Rattle.node_forest.specs.Members.{Occurs}
 use Rattle.pool_rule.specs.Views.{View, spent}
-use Rattle.pool_rule.specs.Rules.{spares, Ruled}
+use Rattle.pool_rule.specs.Rules.{Ruled}
 use Rattle.pool_rule.specs.Plays.{Told}
 use Rattle.pool_rule.specs.Pools.{Terms, Member, IsBare, AreBare, Kept}
 use Rattle.pool_rule.proofs.Alone.{IsLoneStep, lone_step, lone_split, lone_join}

@@ -8,6 +8,5 @@ mod tests;
 
 pub use laws::{
     idle_pools_are_empty, passes_keep_the_rule, pools_start_ruled, steps_are_the_count_rules,
-    steps_keep_the_rule, tokens_divide, weights_tell_holds,
-    whole_tokens_know_all_steps,
+    steps_keep_the_rule, tokens_divide, weights_tell_holds, whole_tokens_know_all_steps,
 };
