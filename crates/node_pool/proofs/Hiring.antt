@@ -1,13 +1,13 @@
 -- The workers that a pool's first token gives.
-use Rattle.std.proofs.Common.{◌≡◌, ℕ, zero, suc, ◌+◌, ◌-◌, ◌*◌, ◌^◌, ◌<◌, ◌≤◌, List, [], ◌∷◌, ◌++◌, length, map, take, drop, refl, sym, ap, subst, ◌∙◌, arith, length-append}
-use Rattle.std.proofs.lemmas.List.{map-append, length-map, length-drop}
+use Rattle.std.proofs.Common.{◌≡◌, ℕ, zero, suc, ◌+◌, ◌-◌, ◌*◌, ◌^◌, ◌<◌, ◌≤◌, List, [], ◌∷◌, ◌++◌, length, map, drop, refl, sym, ap, ◌∙◌, arith}
+use Rattle.std.proofs.lemmas.List.{map-append}
 use Rattle.std.proofs.Math.Numerals.{add-one}
 use Rattle.atomic_table.specs.Table.{Splits}
 use Rattle.pool_rule.specs.Pools.{Terms, Kept}
-use Rattle.pool_rule.specs.Views.{View, blank, first_view, narrower, part_of}
+use Rattle.pool_rule.specs.Views.{View, first_view, narrower, part_of}
 use Rattle.pool_rule.proofs.Calls.{splits}
 use Rattle.node_pool.specs.Boxes.{below}
-use Rattle.node_pool.specs.Starts.{slot_count, rest_after, worker_at, new_workers}
+use Rattle.node_pool.specs.Starts.{rest_after, worker_at}
 use Rattle.node_pool.specs.Tokens.{IsWorkerView}
 
 abbrev nothing : {A : Type 0} → List A

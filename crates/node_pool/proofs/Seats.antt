@@ -7,7 +7,6 @@ use Rattle.atomic_table.specs.Seated.{TableId}
 use Rattle.atomic_table.specs.Table.{Me, step, Allows}
 use Rattle.node_forest.specs.Forest.{children}
 use Rattle.node_forest.specs.Label.{Node, number}
-use Rattle.node_forest.specs.Members.{Occurs}
 use Rattle.node_forest.proofs.Members.{root_occurs}
 use Rattle.count_core.specs.Holders.{Fitting}
 use Rattle.pool_rule.specs.Rules.{IsSane}

@@ -1,6 +1,6 @@
 -- The search for a free number, and the node that is made.
-use Rattle.std.proofs.Common.{◌≡◌, ◌≢◌, inl, inr, ⊎_elim, ℕ, zero, suc, ◌+◌, ◌-◌, ◌<◌, ◌≤◌, Bool, List, [], ◌∷◌, ◌++◌, length, refl, sym, ap, subst, ◌∙◌, arith, eq-eqb, ne_eqb, append_assoc, length-append}
-use Rattle.std.specs.Prelude.{if◌then◌else◌, nat_lt, Some, None}
+use Rattle.std.proofs.Common.{◌≡◌, ◌≢◌, inl, ℕ, zero, suc, ◌+◌, ◌-◌, ◌<◌, ◌≤◌, Bool, List, [], ◌∷◌, ◌++◌, length, refl, sym, ap, subst, ◌∙◌, arith, eq-eqb, ne_eqb, append_assoc, length-append}
+use Rattle.std.specs.Prelude.{if◌then◌else◌, Some, None}
 use Rattle.std.proofs.lemmas.Bool.{lt-ltb, le-ltb}
 use Rattle.std.proofs.Math.Numerals.{add-one}
 use mathlib.Core.Logic.{dite}
@@ -18,7 +18,7 @@ use Rattle.pool_rule.specs.Trades.{HasHolds, Trades}
 use Rattle.pool_rule.specs.Views.{View, taking, noting, tried}
 use Rattle.pool_rule.proofs.Door.{takes-trades_held}
 use Rattle.pool_rule.proofs.Taken.{among_left, among_right}
-use Rattle.node_pool.specs.Answers.{noting_all, IsTaken, IsFull, wrapped, round}
+use Rattle.node_pool.specs.Answers.{noting_all, IsFull, wrapped, round}
 
 -- ---- the node
 pub made_again : (e d : Node) (n : ℕ) (b : Body) → e ≡ renumbered n d → d ≡ node_of d.0.number b → e ≡ node_of e.0.number b

@@ -1,5 +1,5 @@
 -- Paths down a tree, one edge at a time.
-use Rattle.std.proofs.Common.{◌≡◌, Bool, true, false, eqb, ◌++◌, ℕ, zero, suc, inl, inr, ◌+◌, ◌<◌, List, [], ◌∷◌, length, drop, get_or, refl, sym, ap, subst, ◌∙◌, arith, add-one}
+use Rattle.std.proofs.Common.{◌≡◌, Bool, true, false, eqb, ◌++◌, ℕ, zero, suc, inr, ◌+◌, ◌<◌, List, [], ◌∷◌, length, drop, get_or, refl, sym, ap, subst, ◌∙◌, arith, add-one}
 use Rattle.std.specs.Prelude.{if◌then◌else◌}
 use Rattle.std.proofs.lemmas.List.{get_or_default}
 use Rattle.node_forest.specs.Forest.{children}

@@ -1,6 +1,6 @@
 -- How a pool begins: what it is started with, and the workers that it gives.
-use Rattle.std.specs.Prelude.{ℕ, zero, suc, ◌≡◌, ◌+◌, ◌-◌, ◌*◌, ◌^◌, List, [], ◌∷◌, ◌++◌, length, map, min, take, drop}
-use Rattle.pool_rule.specs.Views.{View, blank, first_view, narrower, part_of}
+use Rattle.std.specs.Prelude.{ℕ, ◌-◌, ◌*◌, ◌^◌, List, [], ◌∷◌, ◌++◌, map, min, take, drop}
+use Rattle.pool_rule.specs.Views.{View, blank, first_view}
 use Rattle.node_pool.specs.Boxes.{below}
 
 -- how many slots are the workers'

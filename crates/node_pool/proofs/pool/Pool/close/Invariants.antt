@@ -1,7 +1,6 @@
 -- The seat is the workers so far in one.
 use Rattle.std.proofs.Common.{◌≡◌, []}
 use Rattle.node_pool.proofs.Closing.{IsMerged}
-use Rattle.node_pool.specs.Tokens.{only}
 use Rattle.node_pool.proofs.pool.Pool.close.Given as goal
 
 abbrev pub invariant-loop-worker : goal.invariant-loop-worker

@@ -1,8 +1,8 @@
 -- What the proof of `Pool::look` needs beyond the search.
-use Rattle.std.proofs.Common.{rules, ◌≡◌, ◌<◌, ◌∙◌, inl, get_or, length, refl, arith}
+use Rattle.std.proofs.Common.{rules, ◌<◌, inl, length, refl}
 use Rattle.std.proofs.lemmas.List.{get_or_default}
 use Rattle.pool_rule.proofs.Door.{held-in}
-use Rattle.node_pool.proofs.Walks.{IsAt, walk_on, next_place}
+use Rattle.node_pool.proofs.Walks.{walk_on, next_place}
 use Rattle.node_pool.proofs.pool.Pool.look.Goals as goal
 
 pub loop-i-init : goal.loop-i-init

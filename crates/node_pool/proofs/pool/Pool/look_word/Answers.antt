@@ -1,5 +1,5 @@
 -- What the proof of `Pool::look_word` needs beyond the search.
-use Rattle.std.proofs.Common.{◌≡◌, ◌+◌, sym, ap, ◌∙◌, subst, arith}
+use Rattle.std.proofs.Common.{◌≡◌, sym, ap, ◌∙◌, subst, arith}
 use Rattle.node_forest.specs.Label.{number}
 use Rattle.pool_rule.specs.Views.{looking}
 use Rattle.node_pool.specs.Tokens.{only, IsWorkerView}

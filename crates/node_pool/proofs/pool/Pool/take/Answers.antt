@@ -1,5 +1,5 @@
 -- What the proof of `Pool::take` needs beyond the search.
-use Rattle.std.proofs.Common.{rules, ◌≡◌, ◌+◌, ◌<◌, List, [], ◌∷◌, length, sym, ap, ◌∙◌, subst, arith}
+use Rattle.std.proofs.Common.{rules, ◌≡◌, List, [], ◌∷◌, length, sym, ap, subst, arith}
 use Rattle.node_forest.specs.Label.{Node, number}
 use Rattle.node_edges.specs.Body.{edges_in_body}
 use Rattle.pool_rule.specs.Trades.{HasHolds, Trades}

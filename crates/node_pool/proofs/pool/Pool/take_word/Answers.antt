@@ -1,5 +1,5 @@
 -- What the proof of `Pool::take_word` needs beyond the search.
-use Rattle.std.proofs.Common.{◌≡◌, ◌+◌, sym, ap, ◌∙◌, subst, arith}
+use Rattle.std.proofs.Common.{◌≡◌, sym, ap, ◌∙◌, subst, arith}
 use Rattle.node_forest.specs.Label.{number}
 use Rattle.node_pool.specs.Tokens.{IsWorkerView}
 use Rattle.node_pool.proofs.Seats.{seat_view, take_at, steady-tried, worker_told}

@@ -1,7 +1,7 @@
 -- What the proof of `Opened::named` needs beyond the search.
 use Rattle.std.proofs.Common.{◌≡◌, ◌+◌, [], ap, sym, ◌∙◌, arith}
-use Rattle.pool_rule.specs.Views.{View, narrower, part_of}
-use Rattle.node_pool.specs.Starts.{slot_count, rest_after}
+use Rattle.pool_rule.specs.Views.{narrower, part_of}
+use Rattle.node_pool.specs.Starts.{slot_count}
 use Rattle.node_pool.specs.Tokens.{only}
 use Rattle.node_pool.proofs.Hiring.{hire_at, hired_left, hired_more}
 use Rattle.node_pool.proofs.start.Opened.named.Goals as goal

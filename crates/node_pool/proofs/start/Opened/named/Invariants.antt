@@ -1,5 +1,5 @@
 -- So many workers were made out of the first token.
-use Rattle.std.proofs.Common.{◌≡◌, ◌+◌, ◌≤◌, [], map, vec_len, vec_capacity}
+use Rattle.std.proofs.Common.{◌≡◌, ◌≤◌, [], map, vec_len, vec_capacity}
 use Rattle.node_pool.specs.Boxes.{below}
 use Rattle.node_pool.specs.Starts.{slot_count, rest_after, worker_at}
 use Rattle.node_pool.proofs.start.Opened.named.Given as goal
