@@ -152,7 +152,7 @@ pub merge_at : {S : Type 0} (p : Terms S) (id other numbers most : ℕ) (first :
 merge_at {S} p id other numbers most first ws v w x m same i =
     let mine : IsWorkerView numbers most w = subst (IsWorkerView numbers most) (sym same) i in
     subst (λ (z : View). Joins {S = S} (Kept p) id v other w (merged v w) z) (λ q. blank 0 (mine.size q) (mine.limit q) 0)
-    (merges p id other v w (omega (arith, m.spare)))
+    (merges p id other v w (omega (arith, m.spare)) mine.away)
 
 pub map-id : (vs : List View) → map (λ (v : View). v) vs ≡ vs
 map-id [] = refl

@@ -5,6 +5,7 @@ use mathlib.Core.Option.{none}
 use prog.Atomic.{either}
 use Rattle.atomic_table.specs.Seated.{TableId}
 use Rattle.atomic_table.specs.Table.{Me, step, Allows}
+use Rattle.node_forest.specs.declared.kind.Kind.TheVariants.{External}
 use Rattle.node_forest.specs.Forest.{children}
 use Rattle.node_forest.specs.Label.{Node, number}
 use Rattle.node_forest.proofs.Members.{root_occurs}
@@ -104,19 +105,22 @@ module _ {S : Type 0} (p : Terms S) (slots id i numbers most : ℕ) (me : Me S V
   roomy : (k : ℕ) → length w.holds < 256 + k → length me.0.holds < me.0.room + k
   roomy k less = omega (arith, ap (λ (v : View). length v.holds) same, ap (λ (v : View). v.room) same, worker.room, less)
 
-  pub take_at : number t < numbers → HasHolds w.holds (children t) → length (children t) ≤ 6 → length w.holds < 256 + length (children t)
+  pub take_at : number t < numbers → HasHolds w.holds (children t) → length (children t) ≤ 6 → length w.holds < 256 + length (children t) → (t.0.kind ≡ External → (later : List ℕ) × (w.unused ≡ t.0.more ∷ later))
       → Allows (Kept p) slots id me i (λ n. either (eqb n 0) 1 n) (taken t (step slots i 0 1 none) me)
-  take_at low held few room = subst (λ (j : ℕ). Allows (Kept p) slots id me j (λ n. either (eqb n 0) 1 n) (λ n m'. Told (tried n t me.0) me m')) (sym at)
-      (takes p slots id me spared t (omega (arith, low, size)) (subst (λ (v : View). HasHolds v.holds (children t)) (sym same) held) few (roomy (length (children t)) room))
+  take_at low held few room next = subst (λ (j : ℕ). Allows (Kept p) slots id me j (λ n. either (eqb n 0) 1 n) (λ n m'. Told (tried n t me.0) me m')) (sym at)
+      (takes p slots id me spared t (omega (arith, low, size)) (subst (λ (v : View). HasHolds v.holds (children t)) (sym same) held) few (roomy (length (children t)) room) (λ e. let n = next e in (n.0, ap (λ (v : View). v.unused) same ∙ n.1)))
 
   pub share_at : numbers ≤ 2 ^ 18 → Stands w.holds t → length w.holds < 256 → Allows (Kept p) slots id me i (λ n. (n + 1) % 2 ^ 64) (shared t (step slots i 1 0 none) me)
   share_at small stands room = subst (λ (j : ℕ). Allows (Kept p) slots id me j (λ n. (n + 1) % 2 ^ 64) (shared t (step slots j 1 0 none) me)) (sym at)
       (shares p slots id me spared t (omega (arith, small, size)) (subst (λ (v : View). Stands v.holds t) (sym same) stands) (omega (arith, roomy 0 (omega (arith, room)))))
 
-  pub leave_at : HasHolds w.holds (t ∷ []) → length w.holds + length (children t) ≤ 257 → Allows (Kept p) slots id me i (λ n. (n + (2 ^ 64 - 1)) % 2 ^ 64) (left t (step slots i 1 0 none) me)
-  leave_at held room = subst (λ (j : ℕ). Allows (Kept p) slots id me j (λ n. (n + (2 ^ 64 - 1)) % 2 ^ 64) (left t (step slots j 1 0 none) me)) (sym at)
+  pub leave_at : (q : Terms S) → p ≡ q → HasHolds w.holds (t ∷ []) → length w.holds + length (children t) ≤ 257 → Allows (Kept p) slots id me i (λ n. (n + (2 ^ 64 - 1)) % 2 ^ 64) (left q t (step slots i 1 0 none) me)
+  leave_at q terms held room =
+      subst (λ (z : Terms S). Allows (Kept p) slots id me i (λ n. (n + (2 ^ 64 - 1)) % 2 ^ 64) (left z t (step slots i 1 0 none) me)) terms
+      (subst (λ (j : ℕ). Allows (Kept p) slots id me j (λ n. (n + (2 ^ 64 - 1)) % 2 ^ 64) (left p t (step slots j 1 0 none) me)) (sym at)
       (leaves p slots id me spared t (subst (λ (v : View). HasHolds v.holds (t ∷ [])) (sym same) held)
-      (omega (arith, ap (λ (v : View). length v.holds) same, ap (λ (v : View). v.room) same, worker.room, room)))
+      (omega (arith, ap (λ (v : View). length v.holds) same, ap (λ (v : View). v.room) same, worker.room, room))
+      (ap (λ (v : View). v.away) same ∙ worker.away)))
 
   pub look_at : IsReached t w → Allows (Kept p) slots id me i (λ n. n) (looked t (step slots i 0 0 none) me)
   look_at reached = subst (λ (j : ℕ). Allows (Kept p) slots id me j (λ n. n) (λ n m'. Told (looking n t me.0) me m')) (sym at)

@@ -1,5 +1,6 @@
 //! The pool.
-ghost use Rattle.std.specs.Prelude.{◌≡◌, ◌+◌, ◌^◌, ◌<◌, ◌≤◌, vec_len, vec_capacity};
+ghost use Rattle.std.specs.Prelude.{◌≡◌, ◌+◌, ◌^◌, ◌<◌, ◌≤◌, map, vec_len, vec_capacity};
+ghost use Rattle.node_pool.specs.Boxes.{handed_of};
 
 use crate::naming::Naming;
 use crate::outlet::Outlet;
@@ -23,6 +24,7 @@ pub struct Pool<P: Naming, B: Releaser> {
     ghost sized: { (numbers ≡ P.size) × (table.shared.key.numbers ≡ P.size) },
     ghost limited: { passes ≡ P.limit },
     ghost workers: { table.shared.key.workers ≡ P.workers },
+    ghost boxed: { map handed_of table.shared.key.boxes.items ≡ P.boxes },
     ghost small: { P.size ≤ 2 ^ 18 },
     ghost some: { 0 < P.workers },
     ghost reserved: { (vec_len returned ≡ 0) × (table.shared.table_id.slots ≤ vec_capacity returned) },

@@ -1,8 +1,9 @@
 //! How a pool begins: without a name, which the program then gives it.
 ghost use Rattle.std.specs.Prelude.{◌≡◌, ◌+◌, ◌-◌, ◌*◌, ◌^◌, ◌<◌, ◌≤◌, [], ◌∷◌, length, map, min, All, IfOk, vec_len, vec_capacity, Some};
+ghost use Rattle.std.specs.Option.{option_map};
 ghost use Rattle.count_core.specs.Steps.{zeroes};
 ghost use Rattle.pool_rule.specs.Views.{first_view};
-ghost use Rattle.node_pool.specs.Boxes.{below, handed_of};
+ghost use Rattle.node_pool.specs.Boxes.{below, handed_of, fresh_of, box_of};
 ghost use Rattle.node_pool.specs.Starts.{slot_count, new_workers};
 
 use crate::close::{emptied, give_back};
@@ -74,6 +75,8 @@ fn housed<B: Releaser>(
     requires slots { (vec_len slots.old ≡ 0) × (length releasers.items ≤ vec_capacity slots.old) }
     requires boxes { (vec_len boxes.old ≡ 0) × (length releasers.items ≤ vec_capacity boxes.old) }
     ensures slots { vec_len slots.new ≡ length releasers.items }
+    ensures noted { map handed_of boxes.new.items ≡ map (λ b. record { calls = B.calls_of b; latest = B.latest_of b }) releasers.items }
+    ensures fresh { map (option_map (λ o. box_of o.before o.latest o.length)) slots.new.items ≡ map fresh_of boxes.new.items }
 {
     for releaser in releasers {
         let outlet = Outlet::new(releaser);
@@ -93,7 +96,7 @@ fn unhoused<B: Releaser>(slots: Vec<Option<Outlet<B>>>, mut returned: Vec<B>) ->
 }
 
 impl<B: Releaser> Opened<B> {
-    ghost use Rattle.node_pool.specs.Opened.{opened_table, opened_numbers, opened_passes, opened_workers};
+    ghost use Rattle.node_pool.specs.Opened.{opened_table, opened_numbers, opened_passes, opened_workers, opened_boxes};
 
     /// A pool with so many numbers, at most so many live passes, so many workers and these boxes. All room that later calls need
     /// is reserved here.
@@ -112,6 +115,7 @@ impl<B: Releaser> Opened<B> {
         ensures numbers { IfOk result (λ o. opened_numbers o ≡ numbers) }
         ensures passes { IfOk result (λ o. opened_passes o ≡ passes) }
         ensures workers { IfOk result (λ o. opened_workers o ≡ workers) }
+        ensures boxes { IfOk result (λ o. opened_boxes o ≡ map (λ b. record { calls = B.calls_of b; latest = B.latest_of b }) releasers.items) }
     {
         let count = releasers.len();
         let Ok(room) = reserve(alloc, numbers as usize, count) else {
@@ -129,7 +133,7 @@ impl<B: Releaser> Opened<B> {
             numbers: numbers as usize,
             passes: passes as usize,
             workers: workers as usize,
-            slots: if count < most { count } else { most },
+            slots: count.min(most),
             boxes,
         };
         match Table::new(alloc, words.as_slice(), slots, &terms) {
@@ -157,6 +161,7 @@ impl<B: Releaser> Opened<B> {
         requires numbers { opened_numbers self ≡ P.size }
         requires passes { opened_passes self ≡ P.limit }
         requires workers { opened_workers self ≡ P.workers }
+        requires boxes { opened_boxes self ≡ P.boxes }
         ensures workers { IfOk result (λ r. r.1.items ≡ new_workers P.size P.limit P.workers (slot_count P.workers P.table.slots)) }
     {
         let Opened {

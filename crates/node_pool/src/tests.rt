@@ -2,7 +2,7 @@
 ghost use Rattle.std.specs.Prelude.{◌≡◌, ◌+◌, ◌<◌, ◌≤◌, [], ◌∷◌, length, IfOk, IfErr, IfSome, IsTrue};
 ghost use Rattle.node_forest.specs.Forest.{children};
 ghost use Rattle.pool_rule.specs.Trades.{Trades, SameHolds, HasHolds};
-ghost use Rattle.node_pool.specs.Opened.{opened_table, opened_numbers, opened_passes, opened_workers};
+ghost use Rattle.node_pool.specs.Opened.{opened_table, opened_numbers, opened_passes, opened_workers, opened_boxes};
 
 use crate::{Body, Closed, Edge, Left, Naming, Opened, PassLimit, Pool, TakeError, Worker};
 use cord_port::LogReleaser;
@@ -62,6 +62,7 @@ fn filled<P: Naming>(alloc: Global, opened: Opened<Boxes>) -> Option<((u32, u32)
     requires table { opened_table opened ≡ P.table }
     requires numbers { opened_numbers opened ≡ P.size }
     requires passes { opened_passes opened ≡ P.limit }
+    requires boxes { opened_boxes opened ≡ P.boxes }
     requires workers { (opened_workers opened ≡ P.workers) × (P.workers ≡ 1) }
 {
     let Ok((pool, mut workers)) = opened.named::<P>(alloc) else {
@@ -147,6 +148,7 @@ fn worked<P: Naming>(
     requires table { opened_table opened ≡ P.table }
     requires numbers { opened_numbers opened ≡ P.size }
     requires passes { opened_passes opened ≡ P.limit }
+    requires boxes { opened_boxes opened ≡ P.boxes }
     requires workers { (opened_workers opened ≡ P.workers) × (P.workers ≡ 3) }
 {
     let Ok((pool, mut workers)) = opened.named::<P>(alloc) else {
@@ -275,6 +277,7 @@ fn shared_by_four<P: Naming + Send + Sync, R: Threads + Sync>(
     requires table { opened_table opened ≡ P.table }
     requires numbers { opened_numbers opened ≡ P.size }
     requires passes { opened_passes opened ≡ P.limit }
+    requires boxes { opened_boxes opened ≡ P.boxes }
     requires workers { (opened_workers opened ≡ P.workers) × (P.workers ≡ 4) }
 {
     let Ok((pool, mut workers)) = opened.named::<P>(alloc) else {
