@@ -115,6 +115,7 @@ impl<B: Releaser> Opened<B> {
         ensures numbers { IfOk result (λ o. opened_numbers o ≡ numbers) }
         ensures passes { IfOk result (λ o. opened_passes o ≡ passes) }
         ensures workers { IfOk result (λ o. opened_workers o ≡ workers) }
+        ensures slots { IfOk result (λ o. (opened_table o).slots ≡ length releasers.items) }
         ensures boxes { IfOk result (λ o. opened_boxes o ≡ map (λ b. record { calls = B.calls_of b; latest = B.latest_of b }) releasers.items) }
     {
         let count = releasers.len();

@@ -5,7 +5,7 @@ ghost use Rattle.pool_rule.specs.Trades.{Trades, SameHolds, HasHolds};
 ghost use Rattle.node_pool.specs.Opened.{opened_table, opened_numbers, opened_passes, opened_workers, opened_boxes};
 
 use crate::{Body, Closed, Edge, Left, Naming, Opened, PassLimit, Pool, TakeError, Worker};
-use cord_port::LogReleaser;
+use cord_port::{LogReleaser, Releaser};
 use std::alloc::Global;
 use std::marker::Brand;
 use std::thread::{self, Threads};
@@ -342,4 +342,67 @@ fn four_threads_leave_a_shared_edge_unused(rt: HostRuntime) {
     let opened = opened(rt.alloc(), 8, 2, 4).expect(&rt, "memory");
     let answer = shared_by_four::<Brand, HostRuntime>(&rt, rt.alloc(), opened);
     assert_eq!(rt; answer, Some((true, 0)));
+}
+
+/// An external of 20 bytes is taken and shared, and left so many times. How many numbers are in use then, and the lengths with which
+/// its box was called.
+fn external<P: Naming>(
+    alloc: Global,
+    opened: Opened<Boxes>,
+    last: bool,
+) -> Option<(u32, Option<u64>, u64)>
+    requires table { (opened_table opened ≡ P.table) × (P.table.slots ≡ 1) }
+    requires numbers { opened_numbers opened ≡ P.size }
+    requires passes { opened_passes opened ≡ P.limit }
+    requires workers { (opened_workers opened ≡ P.workers) × (P.workers ≡ 1) }
+    requires boxes { opened_boxes opened ≡ P.boxes }
+{
+    let Ok((pool, mut workers)) = opened.named::<P>(alloc) else {
+        return None;
+    };
+    let Ok(bytes) = Vec::from_slice(alloc, b"twenty bytes of text") else {
+        return None;
+    };
+    let w = &mut workers[0];
+    let Ok(edge) = pool.take(alloc, w, Body::External { bytes, slot: 0 }) else {
+        return None;
+    };
+    pool.share(w, &edge);
+    pool.leave(w, &edge);
+    if last {
+        pool.leave(w, &edge);
+    }
+    let Closed { in_use, releasers } = pool.close(workers);
+    let Some(first) = releasers.first() else {
+        return None;
+    };
+    Some((in_use, first.latest(), first.calls()))
+}
+
+fn with_box(alloc: Global) -> Option<Opened<Boxes>>
+    ensures numbers { IfSome result (λ o. opened_numbers o ≡ 8) }
+    ensures workers { IfSome result (λ o. opened_workers o ≡ 1) }
+    ensures slots { IfSome result (λ o. (opened_table o).slots ≡ 1) }
+{
+    let Ok(log) = LogReleaser::new(alloc, 4) else {
+        return None;
+    };
+    let mut releasers = Vec::new(alloc);
+    if releasers.push(log).is_err() {
+        return None;
+    }
+    let Ok(opened) = Opened::start(alloc, 8, 1, 1, releasers) else {
+        return None;
+    };
+    Some(opened)
+}
+
+#[test]
+fn a_box_is_called_by_the_last_leaver_alone(rt: HostRuntime) {
+    let opened = with_box(rt.alloc()).expect(&rt, "memory");
+    let answer = external::<Brand>(rt.alloc(), opened, false);
+    assert_eq!(rt; answer, Some((1, None, 0)));
+    let opened = with_box(rt.alloc()).expect(&rt, "memory");
+    let answer = external::<Brand>(rt.alloc(), opened, true);
+    assert_eq!(rt; answer, Some((0, Some(20), 1)));
 }
