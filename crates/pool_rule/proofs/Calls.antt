@@ -22,9 +22,9 @@ use Rattle.count_core.proofs.Counting.{unheld}
 use Rattle.count_core.proofs.Moves.{sound_of}
 use Rattle.count_core.specs.Views.{without, without_all, passed_on, AreHeld}
 use Rattle.pool_rule.specs.Notes.{Count, Tally, Use, use_of, uses_of, unused_after, lone_but}
-use Rattle.pool_rule.specs.Views.{View, taking, noting, tried, sharing, leaving, releasing, homing, looking, count_of, tally_of, counting_below, counting_over, counting, ending, undoing, narrower, part_of, parting, empty_pass, handing, giving, without_node, holder, drawing, merged, first_view, spent}
+use Rattle.pool_rule.specs.Views.{View, taking, noting, tried, sharing, releasing, homing, looking, count_of, tally_of, counting_below, counting_over, counting, ending, undoing, narrower, part_of, parting, empty_pass, handing, giving, without_node, holder, drawing, merged, first_view, spent}
 use Rattle.pool_rule.specs.Rules.{holds_of, world, IsSane, Ruled}
-use Rattle.pool_rule.specs.Plays.{AreOneEach, Told, HasLeft, HasHomed, taken, shared, left, homed, looked}
+use Rattle.pool_rule.specs.Plays.{AreOneEach, Told, HasLeft, taken, shared, left, homed, looked}
 use Rattle.pool_rule.specs.Pools.{Terms, IsFresh, IsCalled, Member, IsAlone, IsReached, IsBare, slot_times, IsLive, Slotted, Kept}
 use Rattle.pool_rule.specs.Trades.{HasHolds, Stands}
 use Rattle.pool_rule.proofs.Allowed.{Moved, takes_allowed, shares_allowed, leaves_allowed, looks_allowed}
@@ -238,19 +238,20 @@ module _ {S : Type 0} (p : Terms S) (s : State S View) (id : ℕ) (v : View) (r 
 
   -- a step on the word of live passes
   live_step : (m : ℕ) (w : View) (tally : IsTally (get_or s.words p.numbers 0) v w) → m + tally.ended ≡ get_or s.words p.numbers 0 + tally.made → w.spare ≡ v.spare → w.lone ≡ v.lone → w.holds ≡ v.holds → w.unused ≡ v.unused → w.used ≡ v.used → w.away ≡ v.away → Leaves p.numbers m w
-  live_step m w tally live spare lone holds unused used away =
-      (record {
-        spare = spare;
-        wide = omega (arith, r.counted.width);
-        tally = tally;
-        live = let e = get_or-set_same s.words p.numbers m 0 (omega (arith, r.counted.width)) in omega (arith, e, live);
-        lone = record {
-          kept = λ j h. let mine = subst (λ (ns : List ℕ). Member j ns) lone h in inl (mine, inl (λ e. absurd (omega (arith, e, (r.lone id j v at mine).low))));
-          touch = λ o ne a. absurd (omega (arith, a.low));
-          new = λ x o. inl (x, subst (λ (hs : List Node). Occurs x hs) holds o, refl);
-        };
-      },
-      kept_slots p.numbers m w (omega (arith, r.counted.width)) unused used away (λ x o. inl (subst (λ (hs : List Node). Occurs x hs) holds o)) (λ u l z e. absurd (omega (arith, l.low, e))))
+  live_step m w tally live spare lone holds unused used away = (
+    record {
+      spare = spare;
+      wide = omega (arith, r.counted.width);
+      tally = tally;
+      live = let e = get_or-set_same s.words p.numbers m 0 (omega (arith, r.counted.width)) in omega (arith, e, live);
+      lone = record {
+        kept = λ j h. let mine = subst (λ (ns : List ℕ). Member j ns) lone h in inl (mine, inl (λ e. absurd (omega (arith, e, (r.lone id j v at mine).low))));
+        touch = λ o ne a. absurd (omega (arith, a.low));
+        new = λ x o. inl (x, subst (λ (hs : List Node). Occurs x hs) holds o, refl);
+      };
+    },
+    kept_slots p.numbers m w (omega (arith, r.counted.width)) unused used away (λ x o. inl (subst (λ (hs : List Node). Occurs x hs) holds o)) (λ u l z e. absurd (omega (arith, l.low, e))),
+  )
 
 abbrev counts_tally : (word : ℕ) (v w : View) → w.made ≡ v.made + 1 → w.ended ≡ v.ended → w.joined ≡ v.joined → w.counts ≡ v.counts ++ count_of word v ∷ [] → IsTally word v w
 counts_tally word v w made ended joined counts = record {
@@ -282,9 +283,10 @@ module _ {S : Type 0} (p : Terms S) (slots id : ℕ) (me : Me S View) (worker : 
       (λ free. let core = held-core me.0.holds (children t) (same_held p.numbers s id me.0 r.counted at) held in
       let is_one : either (eqb n 0) 1 n ≡ 1 = ap (λ (b : Bool). either b 1 n) (eq-eqb n 0 free) in
       (take_step p s id me.0 r at t l free core (either (eqb n 0) 1 n), take_slots p s id me.0 r at t l free core (either (eqb n 0) 1 n) (λ z. absurd (omega (arith, z, is_one))) next))
-      (λ full. let is_n : either (eqb n 0) 1 n ≡ n = ap (λ (b : Bool). either b 1 n) (ne_eqb n 0 full) in
-      (still_step p s id me.0 r at (number t) (either (eqb n 0) 1 n) (noting (number t) me.0) l is_n refl (same_sides refl refl refl refl) refl (λ j h. inl h),
-       still_slots p s id me.0 r at (number t) (either (eqb n 0) 1 n) (noting (number t) me.0) l is_n refl refl refl refl))) in
+      (λ full. let is_n : either (eqb n 0) 1 n ≡ n = ap (λ (b : Bool). either b 1 n) (ne_eqb n 0 full) in (
+        still_step p s id me.0 r at (number t) (either (eqb n 0) 1 n) (noting (number t) me.0) l is_n refl (same_sides refl refl refl refl) refl (λ j h. inl h),
+        still_slots p s id me.0 r at (number t) (either (eqb n 0) 1 n) (noting (number t) me.0) l is_n refl refl refl refl,
+      ))) in
       let one : AreOneEach me.0.holds = same_held p.numbers s id me.0 r.counted at in
       let new : List Node = without_all (children t) me.0.holds ++ t ∷ [] in
       let trade = takes-trades_held me.0.holds new (children t) t one held refl in
@@ -300,9 +302,10 @@ module _ {S : Type 0} (p : Terms S) (slots id : ℕ) (me : Me S View) (worker : 
       let here = stands-occurs me.0.holds t stands in
       let m : ℕ = (get_or s.words (number t) 0 + 1) % 2 ^ 64 in
       let fits = word_low p.numbers s id me.0 r.counted at small (number t) (low p.numbers s id me.0 r.counted at t here) in
-      let down : (x : Node) → Occurs x (sharing t me.0).holds → Occurs x me.0.holds = (λ x o. ⊎_elim (λ a. a) (λ b. below_in x t me.0.holds here (alone_out x t b)) (occurs_split x me.0.holds (t ∷ []) o)) in
-      (seen_step p s id me.0 r at t m (sharing t me.0) here refl (same_sides refl refl refl refl) refl down,
-       seen_slots p s id me.0 r at t m (sharing t me.0) here refl refl refl down (λ z. absurd (omega (arith, z, fits)))))
+      let down : (x : Node) → Occurs x (sharing t me.0).holds → Occurs x me.0.holds = (λ x o. ⊎_elim (λ a. a) (λ b. below_in x t me.0.holds here (alone_out x t b)) (occurs_split x me.0.holds (t ∷ []) o)) in (
+        seen_step p s id me.0 r at t m (sharing t me.0) here refl (same_sides refl refl refl refl) refl down,
+        seen_slots p s id me.0 r at t m (sharing t me.0) here refl refl refl down (λ z. absurd (omega (arith, z, fits))),
+      ))
       (shares_allowed p.numbers slots id me t small (stands-occurs me.0.holds t stands) room)
 
   pub looks : (t : Node) → IsReached t me.0 → Allows (Kept p) slots id me (number t) (λ n. n) (looked t (step slots (number t) 0 0 none) me)
@@ -311,12 +314,16 @@ module _ {S : Type 0} (p : Terms S) (slots id : ℕ) (me : Me S View) (worker : 
       step_allowed p slots id (number t) me (λ n. n) (λ n. looking n t me.0) worker
       (λ s r at. let n : ℕ = get_or s.words (number t) 0 in let l = low p.numbers s id me.0 r.counted at t here in
       both_looking (λ w. Leaves p s id me.0 r at (number t) n w) n t me.0
-      (λ one. (still_step p s id me.0 r at (number t) n (found_one t me.0) l refl refl (same_sides refl refl refl refl) refl
-      (λ j h. ⊎_elim (λ a. inl a) (λ b. ⊎_elim (λ e. inr (subst (IsAlone p.numbers (set s.words (number t) n) (set s.views id (found_one t me.0)) id) (sym e) (reached_alone p.numbers s id me.0 r.counted at r.lone t n (found_one t me.0) reached here one refl))) (λ z. absurd z) b)
-      (member_split j me.0.lone (number t ∷ []) h)),
-      still_slots p s id me.0 r at (number t) n (found_one t me.0) l refl refl refl refl refl))
-      (λ more. (still_step p s id me.0 r at (number t) n (found_more n t me.0) l refl refl (same_sides refl refl refl refl) refl (λ j h. inl h),
-      still_slots p s id me.0 r at (number t) n (found_more n t me.0) l refl refl refl refl refl)))
+      (λ one. (
+        still_step p s id me.0 r at (number t) n (found_one t me.0) l refl refl (same_sides refl refl refl refl) refl
+            (λ j h. ⊎_elim (λ a. inl a) (λ b. ⊎_elim (λ e. inr (subst (IsAlone p.numbers (set s.words (number t) n) (set s.views id (found_one t me.0)) id) (sym e) (reached_alone p.numbers s id me.0 r.counted at r.lone t n (found_one t me.0) reached here one refl))) (λ z. absurd z) b)
+            (member_split j me.0.lone (number t ∷ []) h)),
+        still_slots p s id me.0 r at (number t) n (found_one t me.0) l refl refl refl refl refl,
+      ))
+      (λ more. (
+        still_step p s id me.0 r at (number t) n (found_more n t me.0) l refl refl (same_sides refl refl refl refl) refl (λ j h. inl h),
+        still_slots p s id me.0 r at (number t) n (found_more n t me.0) l refl refl refl refl refl,
+      )))
       (looks_allowed p.numbers slots id me t here)
 
   pub counts : me.0.over < me.0.spare → Allows (Kept p) slots id me p.numbers (λ n. (n + 1) % 2 ^ 64) (λ n m'. Told (counting n me.0) me m')

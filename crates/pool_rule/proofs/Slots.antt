@@ -1,5 +1,5 @@
 -- Releaser slots after steps, and after tokens are divided and joined.
-use Rattle.std.proofs.Common.{◌≡◌, ◌≢◌, ◌⊎◌, inl, inr, ⊎_elim, eqb, eq-eqb, ne_eqb, ℕ, zero, suc, ◌+◌, ◌<◌, ◌≤◌, List, [], ◌∷◌, ◌++◌, length, map, drop, sum_by, set, get_or, refl, sym, ◌∙◌, ap, subst, arith, get_or-set_same, get_or-set_other, append-nil}
+use Rattle.std.proofs.Common.{◌≡◌, ◌≢◌, ◌⊎◌, inl, inr, ⊎_elim, eqb, eq-eqb, ne_eqb, ℕ, zero, suc, ◌+◌, ◌<◌, ◌≤◌, List, [], ◌∷◌, ◌++◌, length, map, sum_by, set, get_or, refl, sym, ◌∙◌, ap, subst, arith, get_or-set_same, get_or-set_other, append-nil}
 use Rattle.std.proofs.lemmas.List.{map-append}
 use Rattle.std.proofs.lemmas.List.Sums.{sum_by-append}
 use mathlib.Core.Logic.{dite}
@@ -256,7 +256,6 @@ module _ {S : Type 0} (p : Terms S) where
           (has_out used_of views id v w at u h);
       value = λ j y e. ⊎_elim (λ q. inl q) (λ q. inr (q.0, used_on q.0 q.1, q.2, q.3)) (r.value j y e);
     }
-
 
   home_not : (homes : List (Option S)) (j : ℕ) (y : S) → get_elem? homes j ≡ some none → get_elem? homes j ≡ some (some y) → ⊥
   home_not homes j y a b = some-ne-none y (sym (some-injective none (some y) (sym a ∙ b)))

@@ -58,11 +58,13 @@ invariant_of-w g c =
     let s = c.settle-seat.ensures in
     let is : c.into_seat-seat.result.me.0 ≡ c.args.w.now = seat_view _ _ _ (ap (λ b. b.views) (sym c.replace.ensures.value) ∙ h.2) c.w.view_is in
     let worker : IsWorkerView g.P.Naming.size g.P.Naming.limit c.args.w.now = subst (IsWorkerView g.P.Naming.size g.P.Naming.limit) c.w.view_is i.is in
-    let view : c.settle-seat.result.me.0 ≡ leaving c.fetch_sub-found.result t c.args.w.now = ap (λ x. x.0) s.homed ∙ homed_leaving c.fetch_sub-found.result t c.args.w.now _ _ is (ap (λ (v : View). v.away) is ∙ worker.away) f.view in
-    (c.w.invariant.0, token_of _ _ _ _ (leaving c.fetch_sub-found.result t c.args.w.now) (c.into_badge.ensures.0 ∙ s.table) (c.into_badge.ensures.2 ∙ (λ q. view q ∷ []))
-        (worker_again _ _ c.args.w.now (leaving c.fetch_sub-found.result t c.args.w.now) worker (steady-leaving _ t _)
-            (subst (λ (v : View). IsSane v.size v) view s.worker.0)
-            (subst (λ (v : View). Fitting v.size v.holds) view s.worker.1)))
+    let view : c.settle-seat.result.me.0 ≡ leaving c.fetch_sub-found.result t c.args.w.now = ap (λ x. x.0) s.homed ∙ homed_leaving c.fetch_sub-found.result t c.args.w.now _ _ is (ap (λ (v : View). v.away) is ∙ worker.away) f.view in (
+      c.w.invariant.0,
+      token_of _ _ _ _ (leaving c.fetch_sub-found.result t c.args.w.now) (c.into_badge.ensures.0 ∙ s.table) (c.into_badge.ensures.2 ∙ (λ q. view q ∷ []))
+          (worker_again _ _ c.args.w.now (leaving c.fetch_sub-found.result t c.args.w.now) worker (steady-leaving _ t _)
+          (subst (λ (v : View). IsSane v.size v) view s.worker.0)
+          (subst (λ (v : View). Fitting v.size v.holds) view s.worker.1)),
+    )
 
 pub returns-clause-left : goal.returns-clause-left
 returns-clause-left g c =
