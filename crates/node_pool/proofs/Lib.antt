@@ -1,4 +1,9 @@
 -- The lemmas of this crate.
+pub mod Calling
+pub mod Closing
+pub mod Hiring
 pub mod Passing
 pub mod Seats
+pub mod Starting
 pub mod Takes
+pub mod Walks

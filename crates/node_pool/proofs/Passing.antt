@@ -1,6 +1,6 @@
 -- Passes that go to workers and come from them.
-use Rattle.std.proofs.Common.{◌≡◌, ⊎_elim, ℕ, ◌+◌, ◌-◌, ◌%◌, ◌^◌, ◌<◌, ◌≤◌, Bool, true, false, List, [], ◌∷◌, ◌++◌, length, refl, sym, ap, subst, ◌∙◌, arith, length-append, append-nil}
-use Rattle.std.specs.Prelude.{nat_lt, if◌then◌else◌}
+use Rattle.std.proofs.Common.{◌≡◌, ⊎_elim, ℕ, ◌+◌, ◌-◌, ◌%◌, ◌^◌, ◌<◌, ◌≤◌, Bool, List, [], ◌∷◌, ◌++◌, length, refl, sym, ap, subst, ◌∙◌, arith, length-append, append-nil}
+use Rattle.std.specs.Prelude.{if◌then◌else◌}
 use Rattle.std.proofs.lemmas.Bool.{lt-ltb, le-ltb}
 use Rattle.atomic_table.specs.Table.{Me, Allows, Splits, Joins}
 use Rattle.node_forest.specs.Forest.{below}
@@ -9,7 +9,7 @@ use Rattle.node_forest.specs.Members.{Occurs}
 use Rattle.node_forest.proofs.Members.{occurs_split, root_occurs, below_in, alone_out}
 use Rattle.count_core.specs.Holders.{Fitting}
 use Rattle.pool_rule.specs.Notes.{lone_but}
-use Rattle.pool_rule.specs.Rules.{IsSane, Narrow}
+use Rattle.pool_rule.specs.Rules.{Narrow}
 use Rattle.pool_rule.specs.Plays.{Told}
 use Rattle.pool_rule.specs.Pools.{Terms, IsBare, Kept}
 use Rattle.pool_rule.specs.Trades.{HasHolds}
@@ -17,8 +17,8 @@ use Rattle.pool_rule.specs.Views.{View, blank, empty_pass, holder, with_holds, d
 use Rattle.pool_rule.proofs.Calls.{counts, ends, undoes, parts, hands, draws}
 use Rattle.pool_rule.proofs.Door.{held-in}
 use Rattle.pool_rule.proofs.Giving.{gives-trades, occurs_without_node}
-use Rattle.node_pool.specs.Passes.{counted, uncounted, filled, drawn, IsPassMade}
-use Rattle.node_pool.specs.Tokens.{only, pass_with, IsWorkerView, IsPassView, IsToken}
+use Rattle.node_pool.specs.Passes.{counted, uncounted, filled, drawn}
+use Rattle.node_pool.specs.Tokens.{IsWorkerView, IsPassView}
 
 module _ (numbers most : ℕ) where
   Worker : View → Type 0

@@ -1,21 +1,21 @@
 -- What a token between calls gives its seat, and what a seat gives its token.
-use Rattle.std.proofs.Common.{◌≡◌, ℕ, ◌+◌, ◌-◌, ◌%◌, ◌^◌, ◌<◌, ◌≤◌, Bool, true, false, eqb, List, [], ◌∷◌, length, refl, sym, ap, subst, ◌∙◌, arith}
+use Rattle.std.proofs.Common.{◌≡◌, ℕ, ◌+◌, ◌-◌, ◌%◌, ◌^◌, ◌<◌, ◌≤◌, Bool, true, false, eqb, List, [], ◌∷◌, ◌++◌, length, refl, sym, ap, subst, ◌∙◌, arith}
 use Rattle.std.specs.Prelude.{if◌then◌else◌}
 use mathlib.Core.Option.{none}
 use prog.Atomic.{either}
 use Rattle.atomic_table.specs.Seated.{TableId}
 use Rattle.atomic_table.specs.Table.{Me, step, Allows}
+use Rattle.node_forest.specs.declared.kind.Kind.TheVariants.{External}
 use Rattle.node_forest.specs.Forest.{children}
 use Rattle.node_forest.specs.Label.{Node, number}
-use Rattle.node_forest.specs.Members.{Occurs}
 use Rattle.node_forest.proofs.Members.{root_occurs}
 use Rattle.count_core.specs.Holders.{Fitting}
 use Rattle.pool_rule.specs.Rules.{IsSane}
-use Rattle.pool_rule.specs.Plays.{Told, taken, shared, left}
-use Rattle.pool_rule.specs.Pools.{Terms, Kept}
+use Rattle.pool_rule.specs.Plays.{Told, taken, shared, left, looked}
+use Rattle.pool_rule.specs.Pools.{Terms, IsReached, Kept}
 use Rattle.pool_rule.specs.Trades.{HasHolds, Stands}
-use Rattle.pool_rule.specs.Views.{View, taking, noting, tried, sharing, leaving}
-use Rattle.pool_rule.proofs.Calls.{takes, shares, leaves}
+use Rattle.pool_rule.specs.Views.{View, taking, noting, tried, sharing, leaving, looking}
+use Rattle.pool_rule.proofs.Calls.{takes, shares, leaves, looks, reached_occurs}
 use Rattle.pool_rule.proofs.Door.{held-in, stands-occurs}
 use Rattle.node_pool.specs.Tokens.{only, IsWorkerView, IsToken}
 
@@ -58,6 +58,13 @@ steady-tried n t v = go (eqb n 0)
     go true = steady refl refl refl refl refl refl refl refl
     go false = steady refl refl refl refl refl refl refl refl
 
+pub steady-looking : (n : ℕ) (t : Node) (v : View) → IsSteady v (looking n t v)
+steady-looking n t v = go (eqb n 1)
+  where
+    go : (b : Bool) → IsSteady v (if b then record v { lone = v.lone ++ number t ∷ [] } else record v { looks = v.looks ++ record { number = number t; found = n; shares = v.shares } ∷ [] })
+    go true = steady refl refl refl refl refl refl refl refl
+    go false = steady refl refl refl refl refl refl refl refl
+
 -- a worker's view is a worker's again
 pub worker_again : (numbers most : ℕ) (v w : View) → IsWorkerView numbers most v → IsSteady v w → IsSane w.size w → Fitting w.size w.holds → IsWorkerView numbers most w
 worker_again numbers most v w i s sane fits = record {
@@ -87,6 +94,9 @@ low_stands numbers most v t i stands = i.fits t (stands-occurs v.holds t stands)
 pub low_held : (numbers most : ℕ) (v : View) (t : Node) → IsWorkerView numbers most v → HasHolds v.holds (t ∷ []) → number t < numbers
 low_held numbers most v t i held = i.fits t (root_occurs t v.holds (held-in v.holds t held))
 
+pub low_reached : (numbers most : ℕ) (v : View) (t : Node) → IsWorkerView numbers most v → IsReached t v → number t < numbers
+low_reached numbers most v t i reached = i.fits t (reached_occurs t v reached)
+
 -- what a worker may do on a word, told of its seat
 module _ {S : Type 0} (p : Terms S) (slots id i numbers most : ℕ) (me : Me S View) (w : View) (t : Node) (same : me.0 ≡ w) (worker : IsWorkerView numbers most w) (at : i ≡ number t) (size : p.numbers ≡ numbers) where
   spared : 0 < me.0.spare
@@ -95,16 +105,23 @@ module _ {S : Type 0} (p : Terms S) (slots id i numbers most : ℕ) (me : Me S V
   roomy : (k : ℕ) → length w.holds < 256 + k → length me.0.holds < me.0.room + k
   roomy k less = omega (arith, ap (λ (v : View). length v.holds) same, ap (λ (v : View). v.room) same, worker.room, less)
 
-  pub take_at : number t < numbers → HasHolds w.holds (children t) → length (children t) ≤ 6 → length w.holds < 256 + length (children t)
+  pub take_at : number t < numbers → HasHolds w.holds (children t) → length (children t) ≤ 6 → length w.holds < 256 + length (children t) → (t.0.kind ≡ External → (later : List ℕ) × (w.unused ≡ t.0.more ∷ later))
       → Allows (Kept p) slots id me i (λ n. either (eqb n 0) 1 n) (taken t (step slots i 0 1 none) me)
-  take_at low held few room = subst (λ (j : ℕ). Allows (Kept p) slots id me j (λ n. either (eqb n 0) 1 n) (λ n m'. Told (tried n t me.0) me m')) (sym at)
-      (takes p slots id me spared t (omega (arith, low, size)) (subst (λ (v : View). HasHolds v.holds (children t)) (sym same) held) few (roomy (length (children t)) room))
+  take_at low held few room next = subst (λ (j : ℕ). Allows (Kept p) slots id me j (λ n. either (eqb n 0) 1 n) (λ n m'. Told (tried n t me.0) me m')) (sym at)
+      (takes p slots id me spared t (omega (arith, low, size)) (subst (λ (v : View). HasHolds v.holds (children t)) (sym same) held) few (roomy (length (children t)) room) (λ e. let n = next e in (n.0, ap (λ (v : View). v.unused) same ∙ n.1)))
 
   pub share_at : numbers ≤ 2 ^ 18 → Stands w.holds t → length w.holds < 256 → Allows (Kept p) slots id me i (λ n. (n + 1) % 2 ^ 64) (shared t (step slots i 1 0 none) me)
   share_at small stands room = subst (λ (j : ℕ). Allows (Kept p) slots id me j (λ n. (n + 1) % 2 ^ 64) (shared t (step slots j 1 0 none) me)) (sym at)
       (shares p slots id me spared t (omega (arith, small, size)) (subst (λ (v : View). Stands v.holds t) (sym same) stands) (omega (arith, roomy 0 (omega (arith, room)))))
 
-  pub leave_at : HasHolds w.holds (t ∷ []) → length w.holds + length (children t) ≤ 257 → Allows (Kept p) slots id me i (λ n. (n + (2 ^ 64 - 1)) % 2 ^ 64) (left t (step slots i 1 0 none) me)
-  leave_at held room = subst (λ (j : ℕ). Allows (Kept p) slots id me j (λ n. (n + (2 ^ 64 - 1)) % 2 ^ 64) (left t (step slots j 1 0 none) me)) (sym at)
+  pub leave_at : (q : Terms S) → p ≡ q → HasHolds w.holds (t ∷ []) → length w.holds + length (children t) ≤ 257 → Allows (Kept p) slots id me i (λ n. (n + (2 ^ 64 - 1)) % 2 ^ 64) (left q t (step slots i 1 0 none) me)
+  leave_at q terms held room =
+      subst (λ (z : Terms S). Allows (Kept p) slots id me i (λ n. (n + (2 ^ 64 - 1)) % 2 ^ 64) (left z t (step slots i 1 0 none) me)) terms
+      (subst (λ (j : ℕ). Allows (Kept p) slots id me j (λ n. (n + (2 ^ 64 - 1)) % 2 ^ 64) (left p t (step slots j 1 0 none) me)) (sym at)
       (leaves p slots id me spared t (subst (λ (v : View). HasHolds v.holds (t ∷ [])) (sym same) held)
-      (omega (arith, ap (λ (v : View). length v.holds) same, ap (λ (v : View). v.room) same, worker.room, room)))
+      (omega (arith, ap (λ (v : View). length v.holds) same, ap (λ (v : View). v.room) same, worker.room, room))
+      (ap (λ (v : View). v.away) same ∙ worker.away)))
+
+  pub look_at : IsReached t w → Allows (Kept p) slots id me i (λ n. n) (looked t (step slots i 0 0 none) me)
+  look_at reached = subst (λ (j : ℕ). Allows (Kept p) slots id me j (λ n. n) (λ n m'. Told (looking n t me.0) me m')) (sym at)
+      (looks p slots id me spared t (subst (IsReached t) (sym same) reached))

@@ -1,16 +1,17 @@
 -- The search for a free number, and the node that is made.
-use Rattle.std.proofs.Common.{◌≡◌, ◌≢◌, inl, inr, ⊎_elim, ℕ, zero, suc, ◌+◌, ◌-◌, ◌<◌, ◌≤◌, Bool, List, [], ◌∷◌, ◌++◌, length, refl, sym, ap, subst, ◌∙◌, arith, eq-eqb, ne_eqb, append_assoc, length-append}
-use Rattle.std.specs.Prelude.{if◌then◌else◌, nat_lt, Some, None}
+use Rattle.std.proofs.Common.{◌≡◌, ◌≢◌, inl, ℕ, zero, suc, ◌+◌, ◌-◌, ◌<◌, ◌≤◌, Bool, List, [], ◌∷◌, ◌++◌, length, refl, sym, ap, subst, ◌∙◌, arith, eq-eqb, ne_eqb, append_assoc, length-append}
+use Rattle.std.specs.Prelude.{if◌then◌else◌, Some, None}
 use Rattle.std.proofs.lemmas.Bool.{lt-ltb, le-ltb}
 use Rattle.std.proofs.Math.Numerals.{add-one}
 use mathlib.Core.Logic.{dite}
 use native.Mathlib.Decide.{dec_lt, dec_le}
+use Rattle.node_forest.specs.declared.kind.Kind.TheVariants as kinds
 use Rattle.node_forest.specs.Forest.{children}
 use Rattle.node_forest.specs.Label.{Node, number}
 use Rattle.node_forest.proofs.Maps.{trees-forest}
 use Rattle.node_edges.specs.declared.edge.Body.{Body}
 use Rattle.node_edges.specs.declared.edge.Body.TheVariants.{Flat, External, Part, Sum, Branch}
-use Rattle.node_edges.specs.Body.{IsBody, edges_in_body, node_of, renumbered, body_length}
+use Rattle.node_edges.specs.Body.{IsBody, edges_in_body, node_of, node_with, renumbered, body_length}
 use Rattle.node_edges.proofs.EdgeLaws.{renumbered-body}
 use Rattle.pool_rule.specs.Rules.{Among}
 use Rattle.pool_rule.specs.Plays.{AreOneEach}
@@ -18,7 +19,7 @@ use Rattle.pool_rule.specs.Trades.{HasHolds, Trades}
 use Rattle.pool_rule.specs.Views.{View, taking, noting, tried}
 use Rattle.pool_rule.proofs.Door.{takes-trades_held}
 use Rattle.pool_rule.proofs.Taken.{among_left, among_right}
-use Rattle.node_pool.specs.Answers.{noting_all, IsTaken, IsFull, wrapped, round}
+use Rattle.node_pool.specs.Answers.{IsNextSlot, noting_all, IsFull, wrapped, round}
 
 -- ---- the node
 pub made_again : (e d : Node) (n : ℕ) (b : Body) → e ≡ renumbered n d → d ≡ node_of d.0.number b → e ≡ node_of e.0.number b
@@ -94,3 +95,15 @@ full_round size start i v w begins all noted = record {
   count = length-round size start size;
   view = noted ∙ ap (λ (k : ℕ). noting_all (round size start k) v) all;
 }
+
+-- an external takes the worker's next slot
+next_slot : (n l : ℕ) (b : Body) (unused : List ℕ) → IsNextSlot b unused → (node_with n l b).0.kind ≡ kinds.External → (later : List ℕ) × (unused ≡ (node_with n l b).0.more ∷ later)
+next_slot n l (External bytes slot) unused i e = i
+next_slot n l (Flat bytes room) unused i e = absurd (cc)
+next_slot n l (Part start long child) unused i e = absurd (cc)
+next_slot n l (Sum value child) unused i e = absurd (cc)
+next_slot n l (Branch h es) unused i e = absurd (cc)
+
+pub made_slot : (e : Node) (b : Body) (unused : List ℕ) → e ≡ node_of e.0.number b → IsNextSlot b unused → e.0.kind ≡ kinds.External → (later : List ℕ) × (unused ≡ e.0.more ∷ later)
+made_slot e b unused is i =
+    subst (λ (t : Node). t.0.kind ≡ kinds.External → (later : List ℕ) × (unused ≡ t.0.more ∷ later)) (sym is) (next_slot e.0.number (body_length b) b unused i)

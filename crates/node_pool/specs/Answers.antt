@@ -7,7 +7,7 @@ use Rattle.pool_rule.specs.Notes.{lone_but}
 use Rattle.pool_rule.specs.Rules.{Among}
 use Rattle.pool_rule.specs.Views.{View, taking}
 use Rattle.node_edges.specs.declared.edge.Body.{Body}
-use Rattle.node_edges.specs.declared.edge.Body.TheVariants.{Flat, External, Part, Sum, Branch}
+use Rattle.node_edges.specs.declared.edge.Body.TheVariants.{External}
 use Rattle.node_pool.specs.declared.calls.Left.{Left}
 use Rattle.node_pool.specs.declared.calls.Left.TheVariants.{Shared, Last}
 use Rattle.node_pool.specs.declared.calls.TakeError.{TakeError}

@@ -1,5 +1,9 @@
 -- The definitions of this crate.
 pub mod Answers
 pub mod Boxes
+pub mod Closes
 pub mod Passes
+pub mod Paths
+pub mod Starts
+pub mod Opened
 pub mod Tokens

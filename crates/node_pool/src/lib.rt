@@ -4,20 +4,27 @@
 #![tactic(auto)]
 
 mod calls;
+mod close;
+mod look;
 mod naming;
 mod outlet;
 mod passes;
 mod plays;
 mod pool;
+mod start;
+#[cfg(test)]
+mod tests;
 mod tokens;
 mod view;
 mod words;
 
 pub use calls::{Left, TakeError};
+pub use close::Closed;
 pub use naming::Naming;
 pub use node_edges::{Body, Edge, Memory};
 pub use outlet::Outlet;
 pub use passes::PassLimit;
 pub use pool::Pool;
+pub use start::{Opened, PoolRefused};
 pub use tokens::{Pass, Worker};
 pub use view::{CountRule, PoolTerms, TokenView};

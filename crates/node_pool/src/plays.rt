@@ -1,7 +1,9 @@
 //! What each kind of step tells, and how tokens are divided and joined.
 use crate::naming::{Chosen, Naming};
+use crate::outlet::Outlet;
 use crate::view::TokenView;
 use atomic_table::{Join, Play, Split};
+use cord_port::Releaser;
 use std::marker::PhantomData;
 
 pub struct Takes<T> {
@@ -24,14 +26,26 @@ impl<S, T: Chosen> Play<S, TokenView> for Shares<T> {
     ghost then = { shared T.node };
 }
 
-pub struct Leaves<T> {
-    node: PhantomData<T>,
+/// Of the pool it names the boxes, as the last leaver of an external gets one.
+pub struct Leaves<T, P> {
+    node: PhantomData<(T, P)>,
 }
 
-impl<S, T: Chosen> Play<S, TokenView> for Leaves<T> {
+impl<B: Releaser, T: Chosen, P: Naming> Play<Option<Outlet<B>>, TokenView> for Leaves<T, P> {
+    ghost use Rattle.std.specs.Option.{option_map};
     ghost use Rattle.pool_rule.specs.Plays.{left};
+    ghost use Rattle.node_pool.specs.Boxes.{box_of, pool_terms};
 
-    ghost then = { left T.node };
+    ghost then = { left (pool_terms P.size P.workers P.boxes (option_map (λ o. box_of o.before o.latest o.length))) T.node };
+}
+
+/// A slot is given back.
+pub struct Homes;
+
+impl<S> Play<S, TokenView> for Homes {
+    ghost use Rattle.pool_rule.specs.Plays.{homed};
+
+    ghost then = { homed };
 }
 
 pub struct Counts;
@@ -96,4 +110,38 @@ impl<P: Naming> Join<TokenView> for Draws<P> {
     ghost both = { drawing };
 
     ghost spent = { blank 0 P.size P.limit 0 };
+}
+
+/// A worker is made out of the pool's first token, with its room and its slots.
+pub struct Hires;
+
+impl Split<TokenView> for Hires {
+    ghost use Rattle.pool_rule.specs.Views.{narrower, part_of};
+
+    ghost left = { narrower 256 16 };
+
+    ghost right = { part_of 256 16 };
+}
+
+/// Two workers become one, when the pool is closed.
+pub struct Merges<P> {
+    of: PhantomData<P>,
+}
+
+impl<P: Naming> Join<TokenView> for Merges<P> {
+    ghost use Rattle.pool_rule.specs.Views.{merged, blank};
+
+    ghost both = { merged };
+
+    ghost spent = { blank 0 P.size P.limit 0 };
+}
+
+pub struct Looks<T> {
+    node: PhantomData<T>,
+}
+
+impl<S, T: Chosen> Play<S, TokenView> for Looks<T> {
+    ghost use Rattle.pool_rule.specs.Plays.{looked};
+
+    ghost then = { looked T.node };
 }

@@ -21,6 +21,7 @@ impl Model for TokenView {
 
 /// What the table is told when it is made: how many numbers, live passes and workers, how many slots are the workers', and of each
 /// box how often it was called and the latest length.
+#[derive(Drop)]
 pub struct PoolTerms {
     pub numbers: usize,
     pub passes: usize,

@@ -1,21 +1,26 @@
 //! Single steps of a worker on the word of a node's number.
-ghost use Rattle.std.specs.Prelude.{◌≡◌, ◌+◌, ◌<◌, ◌≤◌, [], ◌∷◌, length};
+ghost use Rattle.std.specs.Prelude.{◌≡◌, ◌≢◌, ◌⊎◌, ℕ, List, ◌+◌, ◌<◌, ◌≤◌, [], ◌∷◌, length};
+ghost use Rattle.std.specs.Option.{option_map};
 ghost use Rattle.node_forest.specs.Forest.{children};
 ghost use Rattle.node_forest.specs.Label.{number};
 ghost use Rattle.node_forest.specs.Members.{Occurs};
+ghost use Rattle.node_forest.specs.declared.kind.Kind.TheVariants.{External};
+ghost use Rattle.count_core.specs.Holders.{Fitting};
 ghost use Rattle.pool_rule.specs.Plays.{AreOneEach};
+ghost use Rattle.pool_rule.specs.Rules.{IsSane};
 ghost use Rattle.pool_rule.specs.Trades.{HasHolds, Stands};
-ghost use Rattle.pool_rule.specs.Views.{tried, sharing, leaving};
+ghost use Rattle.pool_rule.specs.Views.{tried, sharing, leaving, homing};
+ghost use Rattle.node_pool.specs.Boxes.{box_of, IsCarried};
 
 use crate::naming::{Chosen, Naming};
 use crate::outlet::Outlet;
-use crate::plays::{Leaves, Shares, Takes};
+use crate::plays::{Homes, Leaves, Shares, Takes};
 use crate::pool::Pool;
 use crate::tokens::Worker;
 use crate::view::TokenSeat;
 use atomic_table::Badge;
 use cord_port::Releaser;
-use node_edges::Edge;
+use node_edges::{Body, Edge};
 use std::mem;
 
 impl<P: Naming, B: Releaser> Pool<P, B> {
@@ -26,6 +31,7 @@ impl<P: Naming, B: Releaser> Pool<P, B> {
         requires held { HasHolds w.old.holds (children T.node) }
         requires few { length (children T.node) ≤ 6 }
         requires room { length w.old.holds < 256 + length (children T.node) }
+        requires slot { T.node.0.kind ≡ External → (later : List ℕ) × (w.old.unused ≡ T.node.0.more ∷ later) }
         ensures tried { w.new ≡ tried result T.node w.old }
         ensures one_each { AreOneEach w.old.holds }
     {
@@ -65,8 +71,48 @@ impl<P: Naming, B: Releaser> Pool<P, B> {
         let found = self
             .table
             .shared
-            .fetch_sub::<Leaves<T>>(&mut seat, edge.number() as usize, 1);
+            .fetch_sub::<Leaves<T, P>>(&mut seat, edge.number() as usize, 1);
+        let seat = self.settle(seat, found, edge);
         w.badge = seat.into_badge();
         found
+    }
+
+    // Where the step was the last of an external, its box is called.
+    fn settle(&self, seat: TokenSeat<B>, found: u64, edge: &Edge) -> TokenSeat<B>
+        requires table { seat.table_id ≡ P.table }
+        requires worker { (0 < P.size) × (0 < seat.me.0.spare) × IsSane seat.me.0.size seat.me.0 × Fitting seat.me.0.size seat.me.0.holds }
+        requires plain { (found ≢ 1) ⊎ (edge.now.0.kind ≢ External) → (seat.me.0.away ≡ []) × (seat.me.1 ≡ []) }
+        requires last { found ≡ 1 → edge.now.0.kind ≡ External → IsCarried P.boxes (option_map (λ o. box_of o.before o.latest o.length)) edge.now seat.me }
+        ensures table { result.table_id ≡ P.table }
+        ensures homed { result.me ≡ (homing seat.me.0, []) }
+        ensures worker { IsSane result.me.0.size result.me.0 × Fitting result.me.0.size result.me.0.holds }
+    {
+        if found != 1 {
+            return seat;
+        }
+        match edge.body() {
+            Body::External { slot, .. } => self.call_out(seat, edge, *slot as usize),
+            _ => seat,
+        }
+    }
+
+    // Calls the box of an external's slot, which is out with the seat, and gives it back.
+    fn call_out(&self, mut seat: TokenSeat<B>, edge: &Edge, slot: usize) -> TokenSeat<B>
+        requires table { seat.table_id ≡ P.table }
+        requires worker { (0 < P.size) × (0 < seat.me.0.spare) }
+        requires slot { slot ≡ edge.now.0.more }
+        requires carried { IsCarried P.boxes (option_map (λ o. box_of o.before o.latest o.length)) edge.now seat.me }
+        ensures table { result.table_id ≡ P.table }
+        ensures homed { result.me ≡ (homing seat.me.0, []) }
+        ensures worker { IsSane result.me.0.size result.me.0 × Fitting result.me.0.size result.me.0.holds }
+    {
+        let shared = &self.table.shared;
+        let Some(mut outlet) = shared.exchange(&mut seat, slot, None) else {
+            unreachable!()
+        };
+        outlet.release(edge.length());
+        shared.exchange(&mut seat, slot, Some(outlet));
+        shared.load::<Homes>(&mut seat, 0);
+        seat
     }
 }

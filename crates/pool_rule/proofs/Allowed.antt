@@ -2,11 +2,11 @@
 use Rattle.std.proofs.Common.{◌≡◌, inl, inr, ℕ, ◌+◌, ◌-◌, ◌%◌, ◌^◌, ◌<◌, ◌≤◌, Bool, eqb, eq-eqb, ne_eqb, [], ◌∷◌, ◌++◌, length, List, get_or, refl, sym, ap, subst, arith, length-append}
 use Rattle.std.specs.Prelude.{if◌then◌else◌}
 use mathlib.Core.Logic.{dite}
-use mathlib.Core.Option.{none, some}
+use mathlib.Core.Option.{some}
 use lib.ListN.{get_elem?}
 use native.Mathlib.Decide.{ℕ_discrete}
 use prog.Atomic.{either}
-use Rattle.atomic_table.specs.Table.{State, Me, Act, step, keeps, Valid, carried_after, stepped, Allows}
+use Rattle.atomic_table.specs.Table.{State, Me, Act, keeps, Valid, carried_after, stepped, Allows}
 use Rattle.node_forest.specs.Forest.{children}
 use Rattle.node_forest.specs.Label.{Node, number}
 use Rattle.node_forest.specs.Members.{In, Occurs}
@@ -133,6 +133,6 @@ module _ {S : Type 0} (k : ℕ) where
             tt,
             subst (λ (z : ℕ). Ruled k (stepped s (number t) z id me.1 w keeps)) word
                 (does_ruled k s id me.0 r at (look id (number t)) (number t) (get_or s.words (number t) 0) w me.1 (look_does k s id me.0 r at t w me.1 holds here) sane steady l
-                    (λ j a. subst (λ (z : List ℕ). Among j z) (sym taken) a) (λ _. inl (λ e. absurd (omega (arith, e, held)))) full),
+                (λ j a. subst (λ (z : List ℕ). Among j z) (sym taken) a) (λ _. inl (λ e. absurd (omega (arith, e, held)))) full),
             told_as s id me (w, me.1) w (looking n t me.0) r at refl refl sane is,
           )

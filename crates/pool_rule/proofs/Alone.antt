@@ -1,17 +1,16 @@
 -- Lone numbers after steps, and after tokens are divided and joined.
-use Rattle.std.proofs.Common.{◌≡◌, ◌≢◌, ◌⊎◌, inl, inr, ⊎_elim, Bool, true, false, eqb, ℕ, zero, suc, ◌+◌, ◌<◌, ◌≤◌, List, [], ◌∷◌, ◌++◌, length, map, set, get_or, refl, sym, ◌∙◌, ap, subst, arith, length-set, get_or-set_same, get_or-set_other}
+use Rattle.std.proofs.Common.{◌≡◌, ◌≢◌, ◌⊎◌, inl, inr, ⊎_elim, Bool, true, false, eqb, ℕ, zero, suc, ◌<◌, List, [], ◌∷◌, ◌++◌, length, map, set, get_or, refl, sym, ◌∙◌, ap, subst, arith, length-set, get_or-set_same, get_or-set_other}
 use Rattle.std.proofs.lemmas.Bool.{eqb-true}
 use mathlib.Core.Logic.{dite}
-use mathlib.Core.Option.{some, some-injective, some-ne-none}
+use mathlib.Core.Option.{some}
 use native.Mathlib.Decide.{ℕ_discrete}
 use lib.ListN.{get_elem?}
 use Rattle.atomic_table.specs.Table.{State}
-use Rattle.atomic_table.proofs.Lists.{at_set, at_snoc, set_else}
-use Rattle.node_forest.specs.Forest.{children, below}
+use Rattle.atomic_table.proofs.Lists.{at_set, at_snoc}
 use Rattle.node_forest.specs.Label.{Node, number}
 use Rattle.node_forest.specs.Members.{In, Occurs}
-use Rattle.node_forest.specs.Counts.{is, times}
-use Rattle.node_forest.proofs.Counts.{is_one, times_pos}
+use Rattle.node_forest.specs.Counts.{times}
+use Rattle.node_forest.proofs.Counts.{times_pos}
 use Rattle.node_forest.proofs.Members.{occurs_split}
 use Rattle.count_core.specs.Steps.{roots, word_at}
 use Rattle.count_core.proofs.Lone.{lone_root, lone_child}
@@ -22,7 +21,7 @@ use Rattle.pool_rule.specs.Pools.{Member, IsAlone, AreLone, IsReached}
 use Rattle.pool_rule.specs.Rules.{holds_of, world, Ruled}
 use Rattle.pool_rule.specs.Views.{View, spent}
 use Rattle.pool_rule.proofs.Steps.{low}
-use Rattle.pool_rule.proofs.Worlds.{at_lt, held_at, word_world, width_world, places_world}
+use Rattle.pool_rule.proofs.Worlds.{at_lt, held_at, word_world, places_world}
 
 -- ---- lists of lone numbers
 pub member_lone_but : (nodes : List Node) (n : ℕ) (ns : List ℕ) → Member n (lone_but nodes ns) → Member n ns × (times n nodes ≡ 0)
@@ -52,7 +51,8 @@ but_apart nodes n x none_ i e = absurd (omega (arith, times_pos n x nodes i e, n
 pub record IsLoneStep (numbers : ℕ) (words : List ℕ) (views : List View) (id n m : ℕ) (v w : View) : Type 0 where
   pub kept : (j : ℕ) → Member j w.lone → (Member j v.lone × ((j ≢ n) ⊎ (m ≡ get_or words n 0))) ⊎ IsAlone numbers (set words n m) (set views id w) id j
   pub touch : (other : ℕ) → other ≢ id → IsAlone numbers words views other n → m ≡ get_or words n 0
-  pub new : (x : Node) → Occurs x w.holds → Occurs x v.holds ⊎ ((number x ≡ n) × (get_or words n 0 ≡ 0))
+  -- each number in the trees was there before, or was taken
+  pub new : (x : Node) → Occurs x w.holds → ((y : Node) × Occurs y v.holds × (number y ≡ number x)) ⊎ ((number x ≡ n) × (get_or words n 0 ≡ 0))
 
 one_still : (words : List ℕ) (n m j : ℕ) → n < length words → (j ≢ n) ⊎ (m ≡ get_or words n 0) → get_or words j 0 ≡ 1 → get_or (set words n m) j 0 ≡ 1
 one_still words n m j wide why one =
@@ -78,7 +78,7 @@ lone_step numbers words views id n m v w wide at s r i j u here h =
       one = dite (ℕ_discrete j n) (λ e. one_still words n m j wide (inr (is_n e)) a.one) (λ ne. one_still words n m j wide (inl ne) a.one);
       apart = λ o y there ne x occurs. ⊎_elim
           (λ p. let here' : Occurs x w.holds = subst (λ (z : View). Occurs x z.holds) (sym p.1) occurs in
-          ⊎_elim (λ old. a.apart id v at (λ z. ne (p.0 ∙ z)) x old)
+          ⊎_elim (λ old e. a.apart id v at (λ z. ne (p.0 ∙ z)) old.0 old.1 (old.2 ∙ e))
           (λ fresh e. let zero_ : get_or words j 0 ≡ 0 = ap (λ (z : ℕ). get_or words z 0) (sym e ∙ fresh.0) ∙ fresh.1 in absurd (omega (arith, zero_, a.one)))
           (s.new x here'))
           (λ p. a.apart o y p.1 ne x occurs)

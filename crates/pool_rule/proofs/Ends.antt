@@ -1,8 +1,10 @@
 -- A token with all the room leaves none to the others, so what it doesn't hold isn't held.
-use Rattle.std.proofs.Common.{◌≡◌, ◌≢◌, ⊎_elim, ◌+◌, ℕ, suc, ◌<◌, ◌≤◌, List, [], ◌∷◌, length, map, sum_by, get_or, set, refl, sym, ◌∙◌, ap, arith}
+use Rattle.std.proofs.Common.{◌≡◌, ◌≢◌, ⊎_elim, ◌+◌, ℕ, suc, ◌<◌, ◌≤◌, List, [], ◌∷◌, length, map, sum_by, get_or, set, refl, sym, ◌∙◌, ap, subst, arith}
 use Rattle.std.proofs.lemmas.List.{map-set}
 use Rattle.std.proofs.lemmas.List.Sums.{sum_by-append}
 use mathlib.Core.Option.{some}
+use mathlib.Core.Logic.{dite}
+use native.Mathlib.Decide.{ℕ_discrete}
 use lib.ListN.{get_elem?}
 use Rattle.atomic_table.specs.Table.{State}
 use Rattle.atomic_table.proofs.Lists.{at_set, set_else}
@@ -10,9 +12,10 @@ use Rattle.node_forest.specs.Label.{Node}
 use Rattle.count_core.specs.Holders.{holders}
 use Rattle.count_core.specs.Steps.{roots}
 use Rattle.pool_rule.specs.Views.{View, blank, spent}
-use Rattle.pool_rule.specs.Rules.{holds_of, rooms, passes, spares}
+use Rattle.pool_rule.specs.Rules.{holds_of, rooms, passes, spares, Among}
+use Rattle.pool_rule.proofs.Taken.{view_at}
 use Rattle.pool_rule.specs.Notes.{Tally}
-use Rattle.pool_rule.specs.Pools.{Terms, made_by, ended_by, Kept}
+use Rattle.pool_rule.specs.Pools.{Terms, IsBare, IsKnown, made_by, ended_by, Kept}
 use Rattle.pool_rule.proofs.Tallies.{sum-set}
 use Rattle.pool_rule.proofs.Worlds.{held_at, length-rooms, passes_set, spares_set, sane_set, sane_at, set_same, word_world, width_world}
 
@@ -62,21 +65,40 @@ sum-none : (f : View → ℕ) (views : List View) → ((id : ℕ) (v : View) →
 sum-none f [] h = refl
 sum-none f (x ∷ xs) h = omega (arith, h 0 x refl, sum-none f xs (λ id v at. h (suc id) v at), sum_by-append f (x ∷ []) xs)
 
--- where that token ended as many passes as it made, no pass is live
-pub settled : {S : Type 0} (p : Terms S) (s : State S View) (id : ℕ) (v : View) → Kept p s → get_elem? s.views id ≡ some v → v.spare ≡ p.workers → made_by v ≡ ended_by v → get_or s.words p.numbers 0 ≡ 0
-settled p s id v r at all ended =
-    let z : View = spent v in
-    let made_none = sum-none made_by (set s.views id z) (λ j w there. ⊎_elim
-    (λ h. ap made_by (sym h.1))
-    (λ h. let bare = r.bare j w h.1 (omega (arith, spare_within s.views id j v w at h.1 h.0, r.workers, all)) in
-    omega (arith, bare.made, ap (λ (l : List Tally). sum_by (λ (x : Tally). x.made) l) bare.joined))
-    (at_set s.views id j z w there)) in
-    let ended_none = sum-none ended_by (set s.views id z) (λ j w there. ⊎_elim
-    (λ h. ap ended_by (sym h.1))
-    (λ h. let bare = r.bare j w h.1 (omega (arith, spare_within s.views id j v w at h.1 h.0, r.workers, all)) in
-    omega (arith, bare.ended, ap (λ (l : List Tally). sum_by (λ (x : Tally). x.ended) l) bare.joined))
-    (at_set s.views id j z w there)) in
-    omega (arith, r.tallied.live, sum-set made_by s.views id v z at, sum-set ended_by s.views id v z at, made_none, ended_none, ended)
+-- the others made no counted and no uncounted step
+module _ {S : Type 0} (p : Terms S) (s : State S View) (id : ℕ) (v : View) (r : Kept p s) (at : get_elem? s.views id ≡ some v) (all : v.spare ≡ p.workers) where
+  bare_else : (j : ℕ) (w : View) → get_elem? s.views j ≡ some w → j ≢ id → IsBare w
+  bare_else j w there ne = r.bare j w there (omega (arith, spare_within s.views id j v w at there ne, r.workers, all))
+
+  made_all : sum_by made_by s.views ≡ made_by v
+  made_all =
+      let none_ = sum-none made_by (set s.views id (spent v)) (λ j w there. ⊎_elim
+      (λ h. ap made_by (sym h.1))
+      (λ h. let bare = bare_else j w h.1 h.0 in omega (arith, bare.made, ap (λ (l : List Tally). sum_by (λ (x : Tally). x.made) l) bare.joined))
+      (at_set s.views id j (spent v) w there)) in
+      omega (arith, sum-set made_by s.views id v (spent v) at, none_)
+
+  ended_all : sum_by ended_by s.views ≡ ended_by v
+  ended_all =
+      let none_ = sum-none ended_by (set s.views id (spent v)) (λ j w there. ⊎_elim
+      (λ h. ap ended_by (sym h.1))
+      (λ h. let bare = bare_else j w h.1 h.0 in omega (arith, bare.ended, ap (λ (l : List Tally). sum_by (λ (x : Tally). x.ended) l) bare.joined))
+      (at_set s.views id j (spent v) w there)) in
+      omega (arith, sum-set ended_by s.views id v (spent v) at, none_)
+
+  -- where that token ended as many passes as it made, no pass is live
+  pub settled : made_by v ≡ ended_by v → get_or s.words p.numbers 0 ≡ 0
+  settled ended = omega (arith, r.tallied.live, made_all, ended_all, ended)
+
+  pub known : IsKnown v
+  known = record {
+    own = λ c h. let i = r.tallied.own id v at c h in record { most = omega (arith, i.most, made_all); least = omega (arith, i.least, ended_all) };
+    joined = λ t ht c h. let i = r.tallied.joined id v at t ht c h in record { most = omega (arith, i.most, made_all); least = omega (arith, i.least, ended_all) };
+    taken = λ n h. let t = r.counted.full n (record { id = id; view = v; at = at; among = h }) in
+        dite (ℕ_discrete t.id id)
+        (λ e. subst (λ (z : View). Among n z.taken) (view_at s.views t.id id t.view v t.at at e) t.among)
+        (λ ne. absurd (subst (λ (l : List ℕ). Among n l) (bare_else t.id t.view t.at ne).taken t.among));
+  }
 
 pub empties : {S : Type 0} (p : Terms S) (s : State S View) (id : ℕ) (v : View) → Kept p s → get_elem? s.views id ≡ some v → v.spare ≡ p.workers → v.passes ≡ 0 → made_by v ≡ ended_by v → v.holds ≡ [] → (n : ℕ) → n < p.numbers → get_or s.words n 0 ≡ 0
 empties p s id v r at all own ended nothing = ends p s id v r at all own (settled p s id v r at all ended) nothing

@@ -10,6 +10,7 @@ pub mod Ends
 pub mod Passes
 pub mod Tallies
 pub mod Alone
+pub mod Slots
 pub mod Pools
 pub mod Calls
 pub mod Trades

@@ -15,7 +15,7 @@ use Rattle.count_core.specs.Steps.{split, merge, Does, with_views, holds_at, zer
 use Rattle.count_core.specs.Worlds.{IsSound}
 use Rattle.count_core.proofs.Moves.{step_sound}
 use Rattle.count_core.proofs.Runs.{start_sound}
-use Rattle.pool_rule.specs.Views.{View, blank, first_view, narrower, part_of, merged, spent}
+use Rattle.pool_rule.specs.Views.{View, blank, first_view, narrower, part_of, spent}
 use Rattle.pool_rule.specs.Rules.{holds_of, world, rooms, passes, overs, spares, Among, IsTaken, IsFull, Narrow, IsSane, AreSane, Ruled}
 use Rattle.pool_rule.proofs.Taken.{among_left, among_right, among_split, view_at, taken_set, full_set, taken_longer, full_longer, full_nothing}
 use Rattle.pool_rule.proofs.Worlds.{at_lt, held_at, rooms_set, passes_set, overs_set, spares_set, sane_set, sane_at, places_world}

@@ -1,9 +1,9 @@
 -- What a token keeps of its own steps: what its counted steps and its looks found, which numbers it knows to be lone, and its releaser slots.
-use Rattle.std.specs.Prelude.{ℕ, ◌==◌, Bool, true, false, List, [], ◌∷◌, ◌++◌, drop}
+use Rattle.std.specs.Prelude.{ℕ, ◌==◌, Bool, true, false, List, [], ◌∷◌, drop}
 use Rattle.std.specs.Coded.{Coded, coded_ℕ, coded×, coded_list}
 use base.Stored.{coded_via}
 use Rattle.node_forest.specs.declared.kind.Kind.{Kind}
-use Rattle.node_forest.specs.declared.kind.Kind.TheVariants.{Flat, External, Part, Sum, Branch}
+use Rattle.node_forest.specs.declared.kind.Kind.TheVariants.{External}
 use Rattle.node_forest.specs.Counts.{times}
 use Rattle.node_forest.specs.Label.{Node}
 

@@ -1,15 +1,18 @@
 -- The whole rule of the pool's table: besides the count rule what each token knows of lone numbers, of the word of live passes and of releaser slots.
-use Rattle.std.specs.Prelude.{◌≡◌, ◌≢◌, ◌⊎◌, ℕ, ◌+◌, ◌<◌, ◌≤◌, List, [], ◌∷◌, sum_by, slice_index}
+use Rattle.std.specs.Prelude.{◌≡◌, ◌≢◌, ◌⊎◌, ℕ, ◌+◌, ◌<◌, ◌≤◌, eqb, List, [], ◌∷◌, map, sum_by, slice_index}
 use Rattle.std.specs.Prelude.{Option as Maybe, Some, None, slice_index_or}
-use mathlib.Core.Option.{some}
+use mathlib.Core.Option.{Option, none, some}
 use lib.ListN.{get_elem?}
 use Rattle.atomic_table.specs.Table.{State}
 use Rattle.node_forest.specs.Label.{Node, number}
 use Rattle.node_forest.specs.Forest.{children}
 use Rattle.node_forest.specs.Members.{In, Occurs}
-use Rattle.pool_rule.specs.Notes.{Count, Tally}
+use Rattle.node_forest.specs.declared.kind.Kind.TheVariants.{External}
+use Rattle.node_forest.specs.Counts.{one_if}
+use Rattle.pool_rule.specs.Notes.{Count, Tally, Use, use_of}
 use Rattle.pool_rule.specs.Views.{View}
-use Rattle.pool_rule.specs.Rules.{spares, Ruled}
+use Rattle.pool_rule.specs.Rules.{holds_of, spares, Among, Ruled}
+use Rattle.count_core.specs.Steps as core
 
 -- a releaser's box as it was handed in: how often it was called, and the latest length
 pub record Handed : Type 0 where
@@ -101,6 +104,57 @@ pub record Tallied (word : ℕ) (views : List View) : Type 0 where
   pub own : (id : ℕ) (v : View) → get_elem? views id ≡ some v → (c : Count) → Member c v.counts → IsWithin (sum_by made_by views) (sum_by ended_by views) v.made v.ended c
   pub joined : (id : ℕ) (v : View) → get_elem? views id ≡ some v → (t : Tally) → Member t v.joined → (c : Count) → Member c t.counts → IsWithin (sum_by made_by views) (sum_by ended_by views) t.made t.ended c
 
+-- ---- releaser slots
+abbrev pub slot_of : Use → ℕ
+slot_of u = u.slot
+
+abbrev pub unused_of : View → List ℕ
+unused_of v = v.unused
+
+abbrev pub used_of : View → List Use
+used_of v = v.used
+
+abbrev pub away_of : View → List Use
+away_of v = v.away
+
+-- how often a slot stands in a list
+abbrev pub slot_times : ℕ → List ℕ → ℕ
+slot_times j [] = 0
+slot_times j (i ∷ is) = one_if (eqb j i) + slot_times j is
+
+abbrev pub known_times : ℕ → View → ℕ
+known_times j v = slot_times j v.unused + slot_times j (map slot_of v.used)
+
+abbrev pub away_times : ℕ → View → ℕ
+away_times j v = slot_times j (map slot_of v.away)
+
+-- the slot is at home, and its value is so
+pub record IsHome {S : Type 0} (P : S → Type 0) (homes : List (Option S)) (j : ℕ) : Type 0 where
+  pub value : S
+  pub at : get_elem? homes j ≡ some (some value)
+  pub is : P value
+
+-- the external that uses the slot may be a node of some tree, and no other node has its number
+pub record IsLive (numbers : ℕ) (words : List ℕ) (roots : List Node) (u : Use) : Type 0 where
+  pub low : u.number < numbers
+  pub word : slice_index words u.number ≢ 0
+  pub node : (x : Node) → Occurs x roots → number x ≡ u.number → (x.0.kind ≡ External) × (use_of x ≡ u)
+
+pub record Slotted {S : Type 0} (p : Terms S) (words : List ℕ) (homes : List (Option S)) (roots : List Node) (views : List View) : Type 0 where
+  -- each slot is one token's, unused or used once, and out with one token at most
+  pub once : (j : ℕ) → sum_by (known_times j) views ≤ 1
+  pub single : (j : ℕ) → sum_by (away_times j) views ≤ 1
+  -- an unused slot, and that of an external in a tree, are at home, and their box wasn't called
+  pub unused : (j : ℕ) → Has unused_of j views → IsHome (IsFresh p j) homes j
+  pub external : (x : Node) → Occurs x roots → x.0.kind ≡ External → IsHome (IsFresh p x.0.more) homes x.0.more × Has used_of (use_of x) views
+  -- a slot that isn't at home is out with a token, whose external used it
+  pub out : (j : ℕ) → get_elem? homes j ≡ some none → (u : Use) × Has away_of u views × (u.slot ≡ j)
+  pub gone : (u : Use) → Has away_of u views → (get_elem? homes u.slot ≡ some none) × Has used_of u views
+  -- the external of a used slot is in a tree, or the slot is out, or its box was called
+  pub used : (u : Use) → Has used_of u views → IsLive p.numbers words roots u ⊎ Has away_of u views ⊎ IsHome (IsCalled p u.slot u.length) homes u.slot
+  -- a box that was called was so for an external
+  pub value : (j : ℕ) (y : S) → get_elem? homes j ≡ some (some y) → IsFresh p j y ⊎ ((u : Use) × Has used_of u views × (u.slot ≡ j) × IsCalled p j u.length y)
+
 -- ---- the rule
 pub record Kept {S : Type 0} (p : Terms S) (s : State S View) : Type 0 where
   pub counted : Ruled p.numbers s
@@ -108,3 +162,12 @@ pub record Kept {S : Type 0} (p : Terms S) (s : State S View) : Type 0 where
   pub bare : AreBare s.views
   pub lone : AreLone p.numbers s.words s.views
   pub tallied : Tallied (slice_index s.words p.numbers) s.views
+  pub slotted : Slotted p s.words s.homes (core.roots (map holds_of s.views)) s.views
+
+-- ---- a token that is all workers of a pool
+-- what the counted steps of its workers found is bounded by what all of them made and ended, and what their takes found in use was
+-- taken by one of them
+pub record IsKnown (v : View) : Type 0 where
+  pub own : (c : Count) → Member c v.counts → IsWithin (made_by v) (ended_by v) v.made v.ended c
+  pub joined : (t : Tally) → Member t v.joined → (c : Count) → Member c t.counts → IsWithin (made_by v) (ended_by v) t.made t.ended c
+  pub taken : (n : ℕ) → Among n v.full → Among n v.taken

@@ -10,15 +10,17 @@ ghost use Rattle.node_forest.specs.Members.{In, Occurs};
 ghost use Rattle.count_core.specs.Views.{AreHeld, without, without_all};
 ghost use Rattle.count_core.specs.Steps.{zeroes};
 ghost use Rattle.pool_rule.specs.Views.{View, first_view, counting, ending, undoing, narrower, part_of, parting, empty_pass, giving, holder, drawing, merged, spent};
+ghost use Rattle.node_forest.specs.declared.kind.Kind.TheVariants.{External};
+ghost use Rattle.pool_rule.specs.Notes.{Use};
 ghost use Rattle.pool_rule.specs.Rules.{Ruled};
-ghost use Rattle.pool_rule.specs.Pools.{Terms, IsBare, IsReached, made_by, ended_by, Kept};
-ghost use Rattle.pool_rule.specs.Plays.{AreOneEach, Told, taken, shared, left, looked};
+ghost use Rattle.pool_rule.specs.Pools.{Terms, IsFresh, IsCalled, Member, slot_times, IsBare, IsReached, IsKnown, made_by, ended_by, Kept};
+ghost use Rattle.pool_rule.specs.Plays.{AreOneEach, Told, taken, shared, left, homed, looked};
 ghost use Rattle.pool_rule.specs.Steps.{AreCoreSteps};
 ghost use Rattle.pool_rule.specs.Trades.{Trades, HasHolds, Stands};
 
 /// A pool whose words are 0 and whose one token, which holds nothing, has the shares of all workers.
 pub fn pools_start_ruled<S>()
-    ensures { (p : Terms S) (limit : ℕ) (slots : List ℕ) (xs : List S) → limit ≤ 2 ^ 18 → 0 < p.workers → p.workers ≤ 64 → Kept p (opening (zeroes (p.numbers + 1)) xs (first_view (2 ^ 24) p.numbers limit p.workers slots)) }
+    ensures { (p : Terms S) (limit : ℕ) (slots : List ℕ) (xs : List S) → limit ≤ 2 ^ 18 → 0 < p.workers → p.workers ≤ 64 → ((j : ℕ) → slot_times j slots ≤ 1) → ((j : ℕ) → Member j slots → j < length xs) → ((j : ℕ) (y : S) → get_elem? xs j ≡ some y → IsFresh p j y) → Kept p (opening (zeroes (p.numbers + 1)) xs (first_view (2 ^ 24) p.numbers limit p.workers slots)) }
 {}
 
 /// On the world of any table under the rule each step of a token is the count rule's step of the same name.
@@ -29,10 +31,11 @@ pub fn steps_are_the_count_rules<S>()
 /// Whatever other threads do meanwhile, these steps of a worker keep the rule and tell the worker what it knows then: a compare and
 /// exchange of 0 by 1, an addition of 1, a subtraction of 1, and a load.
 pub fn steps_keep_the_rule<S>()
-    ensures take { (p : Terms S) (slots id : ℕ) (me : Me S View) (t : Node) → 0 < me.0.spare → number t < p.numbers → HasHolds me.0.holds (children t) → length (children t) ≤ 6 → length me.0.holds < me.0.room + length (children t) → Allows (Kept p) slots id me (number t) (λ n. either (n == 0) 1 n) (taken t (step slots (number t) 0 1 none) me) }
+    ensures take { (p : Terms S) (slots id : ℕ) (me : Me S View) (t : Node) → 0 < me.0.spare → number t < p.numbers → HasHolds me.0.holds (children t) → length (children t) ≤ 6 → length me.0.holds < me.0.room + length (children t) → (t.0.kind ≡ External → (later : List ℕ) × (me.0.unused ≡ t.0.more ∷ later)) → Allows (Kept p) slots id me (number t) (λ n. either (n == 0) 1 n) (taken t (step slots (number t) 0 1 none) me) }
     ensures share { (p : Terms S) (slots id : ℕ) (me : Me S View) (t : Node) → 0 < me.0.spare → p.numbers ≤ 2 ^ 18 → Stands me.0.holds t → length me.0.holds < me.0.room → Allows (Kept p) slots id me (number t) (λ n. (n + 1) % 2 ^ 64) (shared t (step slots (number t) 1 0 none) me) }
-    ensures leave { (p : Terms S) (slots id : ℕ) (me : Me S View) (t : Node) → 0 < me.0.spare → HasHolds me.0.holds (t ∷ []) → length me.0.holds + length (children t) ≤ me.0.room + 1 → Allows (Kept p) slots id me (number t) (λ n. (n + (2 ^ 64 - 1)) % 2 ^ 64) (left t (step slots (number t) 1 0 none) me) }
+    ensures leave { (p : Terms S) (slots id : ℕ) (me : Me S View) (t : Node) → 0 < me.0.spare → HasHolds me.0.holds (t ∷ []) → length me.0.holds + length (children t) ≤ me.0.room + 1 → me.0.away ≡ [] → Allows (Kept p) slots id me (number t) (λ n. (n + (2 ^ 64 - 1)) % 2 ^ 64) (left p t (step slots (number t) 1 0 none) me) }
     ensures look { (p : Terms S) (slots id : ℕ) (me : Me S View) (t : Node) → 0 < me.0.spare → IsReached t me.0 → Allows (Kept p) slots id me (number t) (λ n. n) (looked t (step slots (number t) 0 0 none) me) }
+    ensures home { (p : Terms S) (slots id : ℕ) (me : Me S View) (u : Use) (y : S) → 0 < me.0.spare → 0 < p.numbers → me.0.away ≡ u ∷ [] → me.1 ≡ (u.slot, y) ∷ [] → IsCalled p u.slot u.length y → Allows (Kept p) slots id me 0 (λ n. n) (homed (step slots 0 0 0 none) me) }
 {}
 
 /// A pass is counted by an addition of 1 to the word of live passes; it ends, or is taken back where the limit was reached, by a
@@ -50,12 +53,17 @@ pub fn tokens_divide<S>()
     ensures part { (p : Terms S) (id : ℕ) (v : View) → 0 < v.spare → 0 < v.passes → length v.holds < v.room → Splits {S = S} (Kept p) id v (parting v) (empty_pass v) }
     ensures hand { (p : Terms S) (id : ℕ) (v : View) (t : Node) → 0 < v.spare → 0 < v.passes → HasHolds v.holds (t ∷ []) → Splits {S = S} (Kept p) id v (giving t v) (holder t v) }
     ensures draw { (p : Terms S) (id other : ℕ) (v w : View) → 0 < v.spare → w.spare ≡ 0 → IsBare w → Joins {S = S} (Kept p) id v other w (drawing v w) (spent w) }
-    ensures merge { (p : Terms S) (id other : ℕ) (v w : View) → 0 < v.spare → Joins {S = S} (Kept p) id v other w (merged v w) (spent w) }
+    ensures merge { (p : Terms S) (id other : ℕ) (v w : View) → 0 < v.spare → w.away ≡ [] → Joins {S = S} (Kept p) id v other w (merged v w) (spent w) }
 {}
 
 /// Where one token has the shares of all workers, holds nothing and ended the passes that it made, no number is in use.
 pub fn idle_pools_are_empty<S>()
     ensures { (p : Terms S) (s : State S View) (id : ℕ) (v : View) → Kept p s → get_elem? s.views id ≡ some v → v.spare ≡ p.workers → v.passes ≡ 0 → made_by v ≡ ended_by v → v.holds ≡ [] → (n : ℕ) → n < p.numbers → slice_index s.words n ≡ 0 }
+{}
+
+/// What a token that is all workers of a pool knows of the steps of all of them.
+pub fn whole_tokens_know_all_steps<S>()
+    ensures { (p : Terms S) (s : State S View) (id : ℕ) (v : View) → Kept p s → get_elem? s.views id ≡ some v → v.spare ≡ p.workers → IsKnown v }
 {}
 
 /// What those who use the pool know of their holds by weights is what the steps ask for, and what the steps tell is a trade of

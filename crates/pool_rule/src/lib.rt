@@ -13,6 +13,6 @@ pub use edge_marks::{
 };
 pub use laws::{
     idle_pools_are_empty, passes_keep_the_rule, pools_start_ruled, steps_are_the_count_rules,
-    steps_keep_the_rule, tokens_divide, weights_tell_holds,
+    steps_keep_the_rule, tokens_divide, weights_tell_holds, whole_tokens_know_all_steps,
 };
 pub use marks::{marks_are_the_count_rules, marks_keep_the_rule};

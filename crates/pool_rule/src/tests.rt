@@ -4,7 +4,7 @@ use crate::edge_marks::{
 };
 use crate::laws::{
     idle_pools_are_empty, passes_keep_the_rule, pools_start_ruled, steps_are_the_count_rules,
-    steps_keep_the_rule, tokens_divide, weights_tell_holds,
+    steps_keep_the_rule, tokens_divide, weights_tell_holds, whole_tokens_know_all_steps,
 };
 use crate::marks::{marks_are_the_count_rules, marks_keep_the_rule};
 
@@ -15,6 +15,7 @@ fn laws_hold_of_slots_of_a_type(_rt: HostRuntime) {
     steps_keep_the_rule::<Option<u64>>();
     tokens_divide::<Option<u64>>();
     idle_pools_are_empty::<Option<u64>>();
+    whole_tokens_know_all_steps::<Option<u64>>();
     passes_keep_the_rule::<Option<u64>>();
     weights_tell_holds();
     edge_changes_are_marks();

@@ -1,11 +1,10 @@
 -- What the proof of `Pool::draw` needs beyond the search.
-use Rattle.std.proofs.Common.{◌≡◌, ◌+◌, ◌≤◌, [], ◌∷◌, ◌++◌, List, length, refl, sym, ap, ◌∙◌, subst, arith}
-use Rattle.node_forest.specs.Label.{Node}
-use Rattle.pool_rule.specs.Views.{View, drawing, parting, counting, undoing, ending, handing, holder, empty_pass}
-use Rattle.node_pool.specs.Tokens.{IsWorkerView, IsPassView, pass_with}
-use Rattle.node_pool.specs.Passes.{counted, uncounted, drawn, filled, IsPassMade}
+use Rattle.std.proofs.Common.{◌≡◌, [], ◌∷◌, sym, ap, ◌∙◌, subst, arith}
+use Rattle.pool_rule.specs.Views.{drawing, parting}
+use Rattle.node_pool.specs.Tokens.{IsWorkerView, IsPassView}
+use Rattle.node_pool.specs.Passes.{drawn}
 use Rattle.node_pool.proofs.Seats.{seat_view, token_of}
-use Rattle.node_pool.proofs.Passing.{join_at, part_at, drawn_is, drawn_worker, empty_view}
+use Rattle.node_pool.proofs.Passing.{join_at, part_at, drawn_is, drawn_worker}
 use Rattle.node_pool.proofs.pool.Pool.draw.Goals as goal
 
 pub join_seat-requires : goal.join_seat-requires

@@ -1,9 +1,9 @@
 -- What the proof of `Pool::end` needs beyond the search.
-use Rattle.std.proofs.Common.{◌≡◌, ◌+◌, ◌≤◌, ◌<◌, [], ◌∷◌, ◌++◌, List, length, refl, sym, ap, ◌∙◌, subst, arith}
+use Rattle.std.proofs.Common.{◌≡◌, [], ◌∷◌, List, length, sym, ap, ◌∙◌, subst, arith}
 use Rattle.node_forest.specs.Label.{Node}
-use Rattle.pool_rule.specs.Views.{View, drawing, parting, counting, undoing, ending, handing, holder, empty_pass}
-use Rattle.node_pool.specs.Tokens.{IsWorkerView, IsPassView, pass_with}
-use Rattle.node_pool.specs.Passes.{counted, uncounted, drawn, filled, IsPassMade}
+use Rattle.pool_rule.specs.Views.{drawing, ending}
+use Rattle.node_pool.specs.Tokens.{IsWorkerView, IsPassView}
+use Rattle.node_pool.specs.Passes.{uncounted}
 use Rattle.node_pool.proofs.Seats.{seat_view, token_of}
 use Rattle.node_pool.proofs.Passing.{join_at, end_at, ended_is, uncounted_worker}
 use Rattle.node_pool.proofs.pool.Pool.end.Goals as goal

@@ -1,11 +1,10 @@
 -- What the proof of `Pool::hand` needs beyond the search.
-use Rattle.std.proofs.Common.{◌≡◌, ◌+◌, ◌≤◌, ◌<◌, [], ◌∷◌, ◌++◌, List, length, refl, sym, ap, ◌∙◌, subst, arith}
-use Rattle.node_forest.specs.Label.{Node}
+use Rattle.std.proofs.Common.{◌≡◌, [], ◌∷◌, sym, ap, ◌∙◌, subst, arith}
 use Rattle.pool_rule.specs.Trades.{Trades}
-use Rattle.pool_rule.specs.Views.{View, drawing, parting, counting, undoing, ending, giving, holder, empty_pass}
+use Rattle.pool_rule.specs.Views.{View, drawing, giving, holder}
 use Rattle.pool_rule.proofs.Giving.{gives-trades}
-use Rattle.node_pool.specs.Tokens.{only, IsWorkerView, IsPassView, pass_with}
-use Rattle.node_pool.specs.Passes.{counted, uncounted, drawn, filled, IsPassMade}
+use Rattle.node_pool.specs.Tokens.{only, IsWorkerView, IsPassView}
+use Rattle.node_pool.specs.Passes.{filled}
 use Rattle.node_pool.proofs.Seats.{seat_view, token_of}
 use Rattle.node_pool.proofs.Passing.{join_at, hand_at, filled_is, filled_worker, given_view}
 use Rattle.node_pool.proofs.pool.Pool.hand.Goals as goal

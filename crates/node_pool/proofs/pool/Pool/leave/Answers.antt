@@ -1,5 +1,5 @@
 -- What the proof of `Pool::leave` needs beyond the search.
-use Rattle.std.proofs.Common.{◌≡◌, ◌++◌, [], Bool, eq-eqb, ne_eqb, ap, ◌∙◌}
+use Rattle.std.proofs.Common.{◌++◌, [], Bool, eq-eqb, ne_eqb, ap, ◌∙◌}
 use Rattle.std.specs.Prelude.{if◌then◌else◌}
 use Rattle.node_forest.specs.Forest.{children}
 use Rattle.node_forest.specs.Label.{number}

@@ -1,9 +1,7 @@
 -- What the proof of `Pool::pass` needs beyond the search.
-use Rattle.std.proofs.Common.{◌≡◌, ◌+◌, ◌≤◌, ◌<◌, [], ◌∷◌, ◌++◌, List, length, refl, sym, ap, ◌∙◌, subst, arith}
-use Rattle.node_forest.specs.Label.{Node}
-use Rattle.pool_rule.specs.Views.{View, drawing, parting, counting, undoing, ending, handing, holder, empty_pass}
-use Rattle.node_pool.specs.Tokens.{IsWorkerView, IsPassView, pass_with}
-use Rattle.node_pool.specs.Passes.{counted, uncounted, drawn, filled, IsPassMade}
+use Rattle.std.proofs.Common.{◌≡◌, [], ◌∷◌, sym, ap, ◌∙◌, subst, arith}
+use Rattle.node_pool.specs.Tokens.{IsWorkerView}
+use Rattle.node_pool.specs.Passes.{counted, uncounted}
 use Rattle.node_pool.proofs.Seats.{seat_view, token_of}
 use Rattle.node_pool.proofs.Passing.{count_at, undo_at, refused_is, part_counted_at, made_is, counted_worker, uncounted_worker}
 use Rattle.node_pool.proofs.pool.Pool.pass.Goals as goal

@@ -1,5 +1,5 @@
 -- What the proof of `Pool::share_word` needs beyond the search.
-use Rattle.std.proofs.Common.{◌≡◌, ◌+◌, sym, ap, ◌∙◌, subst, arith}
+use Rattle.std.proofs.Common.{◌≡◌, sym, ap, ◌∙◌, subst, arith}
 use Rattle.node_forest.specs.Label.{number}
 use Rattle.node_pool.specs.Tokens.{IsWorkerView}
 use Rattle.node_pool.proofs.Seats.{seat_view, low_stands, share_at, steady-sharing, worker_told}

@@ -1,10 +1,10 @@
 -- What the proof of `Pool::take` needs beyond the search.
-use Rattle.std.proofs.Common.{rules, ◌≡◌, ◌+◌, ◌<◌, List, [], ◌∷◌, length, sym, ap, ◌∙◌, subst, arith}
+use Rattle.std.proofs.Common.{◌∙◌, rules, ◌≡◌, List, [], ◌∷◌, length, sym, ap, subst, arith}
 use Rattle.node_forest.specs.Label.{Node, number}
 use Rattle.node_edges.specs.Body.{edges_in_body}
 use Rattle.pool_rule.specs.Trades.{HasHolds, Trades}
 use Rattle.pool_rule.specs.Views.{View}
-use Rattle.node_pool.proofs.Takes.{made_again, made_children, few_edges, noted_more, taken_trades, full_round}
+use Rattle.node_pool.proofs.Takes.{made_slot, made_again, made_children, few_edges, noted_more, taken_trades, full_round}
 use Rattle.node_pool.proofs.pool.Pool.take.Goals as goal
 
 pub take_word-requires-clause-held : goal.take_word-requires-clause-held
@@ -45,3 +45,9 @@ returns-clause-refused g c =
     let inv = c.loop-i.invariant in
     let pool = c.args.self.now in
     (pool.sized.0, full_round g.P.Naming.size c.w.inside.next c.loop-i.i c.args.w.now c.loop-i.w c.w.invariant.0 (search rules) inv.noted)
+
+pub take_word-requires-clause-slot : goal.take_word-requires-clause-slot
+take_word-requires-clause-slot g c = λ ext.
+    let inv = c.loop-i.invariant in
+    let n = made_slot c.renumber.new.self c.args.body c.args.w.now.unused (made_again _ _ _ c.args.body c.renumber.ensures inv.made) c.requires.slot ext in
+    (n.0, ap (λ (v : View). v.unused) inv.noted ∙ n.1)

@@ -1,5 +1,5 @@
 -- What the proof of `Pool::take_word` needs beyond the search.
-use Rattle.std.proofs.Common.{◌≡◌, ◌+◌, sym, ap, ◌∙◌, subst, arith}
+use Rattle.std.proofs.Common.{◌≡◌, sym, ap, ◌∙◌, subst, arith}
 use Rattle.node_forest.specs.Label.{number}
 use Rattle.node_pool.specs.Tokens.{IsWorkerView}
 use Rattle.node_pool.proofs.Seats.{seat_view, take_at, steady-tried, worker_told}
@@ -17,7 +17,7 @@ compare_exchange-found-requires g c =
     let at = c.number.ensures ∙ ap number c.requires.node in (
       h.0 ∙ (ap (λ b. b.table_id) c.replace.ensures.value ∙ (i.table ∙ sym pool.named)),
       omega (arith, low, at, pool.wide),
-      take_at _ _ _ _ g.P.Naming.size g.P.Naming.limit _ c.args.w.now t is worker at pool.sized.1 low c.requires.held c.requires.few c.requires.room,
+      take_at _ _ _ _ g.P.Naming.size g.P.Naming.limit _ c.args.w.now t is worker at pool.sized.1 low c.requires.held c.requires.few c.requires.room c.requires.slot,
     )
 
 pub invariant_of-w : goal.invariant_of-w

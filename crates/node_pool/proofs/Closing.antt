@@ -1,0 +1,159 @@
+-- The words of a pool whose one token holds nothing.
+use Rattle.std.proofs.Common.{◌≡◌, ◌⊎◌, inl, inr, ⊎_elim, ℕ, zero, suc, ◌+◌, ◌<◌, List, [], ◌∷◌, ◌++◌, length, map, sum_by, get_or, refl, sym, ap, subst, ◌∙◌, arith, length-append}
+use Rattle.std.proofs.lemmas.List.Sums.{sum_by-append}
+use mathlib.Core.Option.{some, some-injective, some-ne-none}
+use lib.ListN.{get_elem?}
+use Rattle.std.specs.Prelude.{All}
+use Rattle.atomic_table.specs.Table.{Final, Seen, Joins}
+use Rattle.node_forest.specs.Label.{Node}
+use Rattle.pool_rule.specs.Pools.{Terms, Member, IsKnown, Kept, made_by, ended_by}
+use Rattle.pool_rule.specs.Rules.{Among}
+use Rattle.pool_rule.proofs.Alone.{member_split}
+use Rattle.pool_rule.proofs.Taken.{among_left, among_right, among_split}
+use Rattle.pool_rule.specs.Notes.{Tally}
+use Rattle.pool_rule.specs.Views.{View, blank, merged, tally_of}
+use Rattle.pool_rule.proofs.Calls.{merges}
+use Rattle.pool_rule.proofs.Ends.{empties, known}
+use Rattle.node_pool.specs.Closes.{IsAllIdle, IsWhole, AreCountsWithin, AreTakenByWorkers}
+use Rattle.node_pool.specs.Tokens.{IsWorkerView}
+
+word_is : (ws : List ℕ) (n x : ℕ) → get_elem? ws n ≡ some x → get_or ws n 0 ≡ x
+word_is [] n x e = absurd (some-ne-none x (sym e))
+word_is (w ∷ ws) zero x e = some-injective w x e
+word_is (w ∷ ws) (suc n) x e = word_is ws n x e
+
+pub zero_word : {S : Type 0} (p : Terms S) (id : ℕ) (v : View) (ws : List ℕ) (xs : List S) (n x : ℕ) → Final (Seen (Kept p) id v) ws xs → IsWhole p.workers v → n < p.numbers → get_elem? ws n ≡ some x → x ≡ 0
+zero_word p id v ws xs n x f w low at =
+    sym (word_is ws n x at) ∙ (ap (λ (z : List ℕ). get_or z n 0) (sym f.2) ∙ empties p f.0 id v f.1.0 f.1.1 w.spare w.passes w.ended w.nothing n low)
+
+-- ---- all workers in one
+member_front : {A : Type 0} (x : A) (a b : List A) → Member x a → Member x (a ++ b)
+member_front x [] b h = absurd h
+member_front x (y ∷ ys) b (inl e) = inl e
+member_front x (y ∷ ys) b (inr h) = inr (member_front x ys b h)
+
+member_back : {A : Type 0} (x : A) (a b : List A) → Member x b → Member x (a ++ b)
+member_back x [] b h = h
+member_back x (y ∷ ys) b h = inr (member_back x ys b h)
+
+pub record IsMerged (first : View) (ws : List View) (v : View) : Type 0 where
+  pub spare : v.spare ≡ 1 + length ws
+  pub passes : v.passes ≡ 0
+  pub holds : length v.holds ≡ length first.holds + sum_by (λ (w : View). length w.holds) ws
+  pub made : made_by v ≡ first.made + sum_by (λ (w : View). w.made) ws
+  pub ended : ended_by v ≡ first.ended + sum_by (λ (w : View). w.ended) ws
+  pub own : tally_of v ≡ tally_of first
+  pub joined : (w : View) → Member w ws → Member (tally_of w) v.joined
+  pub full_own : (n : ℕ) → Among n first.full → Among n v.full
+  pub full : (w : View) → Member w ws → (n : ℕ) → Among n w.full → Among n v.full
+  pub taken : (n : ℕ) → Among n v.taken → Among n first.taken ⊎ ((u : View) × Member u ws × Among n u.taken)
+
+pub merged_first : (numbers most : ℕ) (first v : View) → v ≡ first → IsWorkerView numbers most first → IsMerged first [] v
+merged_first numbers most first v same i = subst (IsMerged first []) (sym same) (record {
+  spare = omega (arith, i.spare);
+  passes = i.passes;
+  holds = omega arith;
+  made = omega (arith, ap (λ (l : List Tally). sum_by (λ (x : Tally). x.made) l) i.joined);
+  ended = omega (arith, ap (λ (l : List Tally). sum_by (λ (x : Tally). x.ended) l) i.joined);
+  own = refl;
+  joined = λ w h. absurd h;
+  full_own = λ n h. h;
+  full = λ w h n a. absurd h;
+  taken = λ n h. inl h;
+})
+
+last-sum : (f : View → ℕ) (ws : List View) (w : View) → sum_by f (ws ++ w ∷ []) ≡ sum_by f ws + f w
+last-sum f ws w = omega (arith, sum_by-append f ws (w ∷ []), sum_by-append f (w ∷ []) [])
+
+pub merged_more : (numbers most : ℕ) (first : View) (ws : List View) (v w x : View) → IsMerged first ws v → w ≡ x → IsWorkerView numbers most x → IsMerged first (ws ++ x ∷ []) (merged v w)
+merged_more numbers most first ws v w x m same i =
+    let mine : IsWorkerView numbers most w = subst (IsWorkerView numbers most) (sym same) i in
+    record {
+      spare = omega (arith, m.spare, mine.spare, length-append ws (x ∷ []));
+      passes = omega (arith, m.passes, mine.passes);
+      holds = omega (arith, m.holds, length-append v.holds w.holds, ap (λ (z : View). length z.holds) same, last-sum (λ (z : View). length z.holds) ws x);
+      made = omega (arith, m.made, sum_by-append (λ (z : Tally). z.made) v.joined (tally_of w ∷ w.joined), sum_by-append (λ (z : Tally). z.made) (tally_of w ∷ []) w.joined, ap (λ (l : List Tally). sum_by (λ (z : Tally). z.made) l) mine.joined, ap (λ (z : View). z.made) same, last-sum (λ (z : View). z.made) ws x);
+      ended = omega (arith, m.ended, sum_by-append (λ (z : Tally). z.ended) v.joined (tally_of w ∷ w.joined), sum_by-append (λ (z : Tally). z.ended) (tally_of w ∷ []) w.joined, ap (λ (l : List Tally). sum_by (λ (z : Tally). z.ended) l) mine.joined, ap (λ (z : View). z.ended) same, last-sum (λ (z : View). z.ended) ws x);
+      own = m.own;
+      joined = λ u h. ⊎_elim
+          (λ a. member_front (tally_of u) v.joined (tally_of w ∷ w.joined) (m.joined u a))
+          (λ b. ⊎_elim (λ e. member_back (tally_of u) v.joined (tally_of w ∷ w.joined) (inl (ap tally_of (e ∙ sym same)))) (λ z. absurd z) b)
+          (member_split u ws (x ∷ []) h);
+      full_own = λ n h. among_left n v.full w.full (m.full_own n h);
+      full = λ u h n a. ⊎_elim
+          (λ b. among_left n v.full w.full (m.full u b n a))
+          (λ b. ⊎_elim (λ e. among_right n v.full w.full (subst (λ (z : View). Among n z.full) (e ∙ sym same) a)) (λ z. absurd z) b)
+          (member_split u ws (x ∷ []) h);
+      taken = λ n h. ⊎_elim
+          (λ a. ⊎_elim (λ b. inl b) (λ b. inr (b.0, member_front b.0 ws (x ∷ []) b.1, b.2)) (m.taken n a))
+          (λ a. inr (x, member_back x ws (x ∷ []) (inl refl), subst (λ (z : View). Among n z.taken) same a))
+          (among_split n v.taken w.taken h);
+    }
+
+-- what the whole token knows, its workers know of each other
+pub merged_counts : (first : View) (ws all : List View) (v : View) → IsMerged first ws v → all ≡ ws ++ first ∷ [] → IsKnown v → AreCountsWithin all
+merged_counts first ws all v m is k u h c hc =
+    let made = ap (λ (l : List View). sum_by (λ (z : View). z.made) l) is in
+    let ended = ap (λ (l : List View). sum_by (λ (z : View). z.ended) l) is in
+    let sums_made = last-sum (λ (z : View). z.made) ws first in
+    let sums_ended = last-sum (λ (z : View). z.ended) ws first in
+    ⊎_elim
+    (λ a. let i = k.joined (tally_of u) (m.joined u a) c hc in record { most = omega (arith, i.most, m.made, made, sums_made); least = omega (arith, i.least, m.ended, ended, sums_ended) })
+    (λ b. ⊎_elim
+    (λ e. let t : tally_of u ≡ tally_of v = ap tally_of e ∙ sym m.own in
+    let i = k.own c (subst (λ (z : Tally). Member c z.counts) t hc) in
+    let f = ap (λ (z : Tally). z.made) t in
+    let g = ap (λ (z : Tally). z.ended) t in
+    record { most = omega (arith, i.most, m.made, made, sums_made, f); least = omega (arith, i.least, m.ended, ended, sums_ended, g) })
+    (λ z. absurd z) b)
+    (member_split u ws (first ∷ []) (subst (λ (l : List View). Member u l) is h))
+
+pub merged_taken : (first : View) (ws all : List View) (v : View) → IsMerged first ws v → all ≡ ws ++ first ∷ [] → IsKnown v → AreTakenByWorkers all
+merged_taken first ws all v m is k u h n a =
+    let full : Among n v.full =
+    ⊎_elim (λ b. m.full u b n a) (λ b. ⊎_elim (λ e. m.full_own n (subst (λ (z : View). Among n z.full) e a)) (λ z. absurd z) b) (member_split u ws (first ∷ []) (subst (λ (l : List View). Member u l) is h)) in
+    let back : (w : View) → Member w (ws ++ first ∷ []) → Member w all = (λ w q. subst (λ (l : List View). Member w l) (sym is) q) in
+    ⊎_elim
+    (λ b. (first, back first (member_back first ws (first ∷ []) (inl refl)), b))
+    (λ b. (b.0, back b.0 (member_front b.0 ws (first ∷ []) b.1), b.2))
+    (m.taken n (k.taken n full))
+
+nothing_held : (ws : List View) → All (λ (v : View). v.holds ≡ []) ws → sum_by (λ (w : View). length w.holds) ws ≡ 0
+nothing_held [] h = refl
+nothing_held (w ∷ ws) h =
+    let here = ap (λ (l : List Node). length l) (h 0 w (omega arith)) in
+    let rest = nothing_held ws (λ k d l. h (suc k) d (omega (arith, l))) in
+    omega (arith, here, rest, sum_by-append (λ (z : View). length z.holds) (w ∷ []) ws)
+
+none_of : (hs : List Node) → length hs ≡ 0 → hs ≡ []
+none_of [] e = refl
+none_of (x ∷ xs) e = absurd (omega (arith, e))
+
+pub spare_all : (workers : ℕ) (first : View) (ws all : List View) (v : View) → IsMerged first ws v → all ≡ ws ++ first ∷ [] → length all ≡ workers → v.spare ≡ workers
+spare_all workers first ws all v m is count = omega (arith, m.spare, count, ap (λ (l : List View). length l) is, length-append ws (first ∷ []))
+
+pub known_at : {S : Type 0} (p : Terms S) (id : ℕ) (v : View) (ws : List ℕ) (xs : List S) → Final (Seen (Kept p) id v) ws xs → v.spare ≡ p.workers → IsKnown v
+known_at p id v ws xs f all = known p f.0 id v f.1.0 f.1.1 all
+
+pub merged_whole : (workers : ℕ) (first : View) (ws all : List View) (v : View) → IsMerged first ws v → all ≡ ws ++ first ∷ [] → length all ≡ workers → IsAllIdle all → IsWhole workers v
+merged_whole workers first ws all v m is count idle =
+    let none_held = nothing_held all idle.nothing in
+    let holds = ap (λ (l : List View). sum_by (λ (z : View). length z.holds) l) is in
+    let made = ap (λ (l : List View). sum_by (λ (z : View). z.made) l) is in
+    let ended = ap (λ (l : List View). sum_by (λ (z : View). z.ended) l) is in
+    record {
+      spare = omega (arith, m.spare, count, ap (λ (l : List View). length l) is, length-append ws (first ∷ []));
+      passes = m.passes;
+      nothing = none_of v.holds (omega (arith, m.holds, none_held, holds, last-sum (λ (z : View). length z.holds) ws first));
+      ended = omega (arith, m.made, m.ended, idle.ended, made, ended, last-sum (λ (z : View). z.made) ws first, last-sum (λ (z : View). z.ended) ws first);
+    }
+
+pub merge_at : {S : Type 0} (p : Terms S) (id other numbers most : ℕ) (first : View) (ws : List View) (v w x : View) → IsMerged first ws v → w ≡ x → IsWorkerView numbers most x → Joins {S = S} (Kept p) id v other w (merged v w) (blank 0 numbers most 0)
+merge_at {S} p id other numbers most first ws v w x m same i =
+    let mine : IsWorkerView numbers most w = subst (IsWorkerView numbers most) (sym same) i in
+    subst (λ (z : View). Joins {S = S} (Kept p) id v other w (merged v w) z) (λ q. blank 0 (mine.size q) (mine.limit q) 0)
+    (merges p id other v w (omega (arith, m.spare)) mine.away)
+
+pub map-id : (vs : List View) → map (λ (v : View). v) vs ≡ vs
+map-id [] = refl
+map-id (v ∷ vs) = ap (λ (z : List View). v ∷ z) (map-id vs)

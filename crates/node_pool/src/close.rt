@@ -1,0 +1,111 @@
+//! How a pool ends.
+ghost use Rattle.std.specs.Prelude.{◌≡◌, ◌+◌, ◌-◌, ◌^◌, ◌<◌, ◌≤◌, length, vec_len, vec_capacity};
+ghost use Rattle.pool_rule.specs.Pools.{IsKnown};
+ghost use Rattle.node_pool.specs.Closes.{IsAllIdle, IsWhole, AreCountsWithin, AreTakenByWorkers};
+
+use crate::naming::Naming;
+use crate::outlet::Outlet;
+use crate::plays::Merges;
+use crate::pool::Pool;
+use crate::tokens::Worker;
+use crate::view::{CountRule, PoolTerms, TokenSeat, TokenView};
+use atomic_table::Table;
+use cord_port::Releaser;
+use std::alloc::Global;
+
+/// What is left of a pool.
+#[derive(Drop)]
+pub struct Closed<B> {
+    /// How many words aren't 0.
+    pub in_use: u32,
+    /// The boxes in their first order.
+    pub releasers: Vec<B>,
+}
+
+impl<P: Naming, B: Releaser> Pool<P, B> {
+    /// All workers are given. Where they hold nothing, and ended together as many passes as they made, no number is in use.
+    pub fn close(self, workers: Vec<Worker<P>>) -> Closed<B>
+        requires all { length workers.items ≡ P.workers }
+        ensures idle { IsAllIdle workers.items → result.in_use ≡ 0 }
+        ensures counts { AreCountsWithin workers.items }
+        ensures taken { AreTakenByWorkers workers.items }
+    {
+        let Pool {
+            table,
+            numbers,
+            passes: _,
+            returned,
+            of: _,
+        } = self;
+        let mut workers = workers;
+        let Some(first) = workers.pop() else {
+            unreachable!()
+        };
+        let Worker {
+            badge,
+            next: _,
+            of: _,
+        } = first;
+        let mut seat: TokenSeat<B> = badge.into_seat();
+        for worker in workers {
+            let Worker {
+                badge,
+                next: _,
+                of: _,
+            } = worker;
+            table
+                .shared
+                .join_seat::<Merges<P>>(&mut seat, badge.into_seat());
+        }
+        let (in_use, releasers) = emptied(table, seat, numbers, returned);
+        Closed { in_use, releasers }
+    }
+}
+
+// How many words aren't 0, and the boxes that are at home.
+pub(crate) fn emptied<B: Releaser>(
+    table: Table<Option<Outlet<B>>, TokenView, PoolTerms, CountRule, Global>,
+    seat: TokenSeat<B>,
+    numbers: usize,
+    returned: Vec<B>,
+) -> (u32, Vec<B>)
+    requires seat { seat.table_id ≡ table.shared.table_id }
+    requires numbers { (table.shared.table_id.words ≡ numbers + 1) × (table.shared.key.numbers ≡ numbers) × (numbers < 2 ^ 32) }
+    requires room { (vec_len returned ≡ 0) × (table.shared.table_id.slots ≤ vec_capacity returned) }
+    ensures idle { IsWhole table.shared.key.workers seat.me.0 → result.0 ≡ 0 }
+    ensures known { seat.me.0.spare ≡ table.shared.key.workers → IsKnown seat.me.0 }
+{
+    let mut returned = returned;
+    let slots = table.slot_count();
+    let mut closed = table.close_with(seat);
+    let mut in_use = 0u32;
+    for n in 0..numbers {
+        in_use = in_use_with(in_use, closed.word(n));
+    }
+    for i in 0..slots {
+        let slot = closed.take(i);
+        give_back(&mut returned, slot);
+    }
+    closed.free();
+    (in_use, returned)
+}
+
+// One more number, if its word isn't 0.
+fn in_use_with(in_use: u32, word: u64) -> u32
+    requires { in_use < 2 ^ 32 - 1 }
+    ensures most { result ≤ in_use + 1 }
+    ensures free { word ≡ 0 → result ≡ in_use }
+{
+    if word == 0 { in_use } else { in_use + 1 }
+}
+
+// The box of a slot.
+pub(crate) fn give_back<B: Releaser>(returned: &mut Vec<B>, slot: Option<Outlet<B>>)
+    requires { vec_len returned.old < vec_capacity returned.old }
+    ensures count { vec_len returned.new ≤ vec_len returned.old + 1 }
+    ensures room { vec_capacity returned.new ≡ vec_capacity returned.old }
+{
+    if let Some(outlet) = slot {
+        returned.push_reserved(outlet.into_inner());
+    }
+}
