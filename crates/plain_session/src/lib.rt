@@ -17,3 +17,4 @@ mod tests;
 pub use cord::PlainCord;
 pub use edit::Edit;
 pub use names::Names;
+pub use replies::{done, unset};

@@ -1,0 +1,5 @@
+mod Boards
+pub mod Entries
+mod Lists
+mod Roots
+mod Whole
