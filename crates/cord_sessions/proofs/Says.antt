@@ -14,6 +14,7 @@ pub says-of-bytes : (command : Asked) (o : Outside) (bytes : List ℕ) (ending :
 says-of-bytes Run o bytes Done read said = record {
   script = said.script;
   books = said.books;
+  history = said.history;
   ran = record { bytes = bytes; read = read; spelled = said.ran.spelled; run = said.ran.run };
   written = said.written;
   faultless = said.faultless;
@@ -22,6 +23,7 @@ says-of-bytes Check o bytes Done read said = record { bytes = bytes; script = sa
 says-of-bytes Run o bytes WriteFault read said = record {
   script = said.script;
   books = said.books;
+  history = said.history;
   ran = record { bytes = bytes; read = read; spelled = said.ran.spelled; run = said.ran.run };
   failed = said.failed;
   part = said.part;

@@ -4,6 +4,7 @@ use Rattle.std.specs.List.{sum_by}
 use Rattle.std.specs.Io.KnownBytes.{Appends, IsAtEnd}
 use Rattle.plain_cord.specs.declared.script.Script.{Script}
 use Rattle.plain_cord.specs.declared.reply.Book.{Book}
+use Rattle.plain_cord.specs.declared.history.Entry.{Entry}
 use Rattle.plain_cord.specs.Runs.{IsPlainRun}
 use Rattle.cord_port.specs.Causes.{Rose}
 use Rattle.cord_port.specs.Texts.{Gave, AppendsPart}
@@ -11,7 +12,8 @@ use Rattle.script_words.specs.Causes.{word_of_cause}
 use Rattle.script_reader.specs.declared.fault.ScriptError.{ScriptError}
 use Rattle.script_reader.specs.ScriptSpelling.{Spells}
 use Rattle.script_reader.specs.Faults.{IsFirstFault}
-use Rattle.report_text.specs.Outputs.{line_of, output_text, refusal_line}
+use Rattle.report_text.specs.Replies.{line_of}
+use Rattle.report_text.specs.Outputs.{output_text, refusal_line}
 use Rattle.report_text.specs.Summaries.{summary_line}
 use Rattle.cord_sessions.specs.declared.asked.Asked.{Asked}
 use Rattle.cord_sessions.specs.declared.asked.Asked.TheVariants.{Run, Check}
@@ -69,28 +71,30 @@ pub record Told (held held_after : Option (List ℕ)) (faults faults_after : ℕ
   pub part : AppendsPart held held_after line
   pub whole : ¬ (Rose faults faults_after) → Appends held held_after line
 
--- the source had a script, whose run gave these books
-pub record IsRunOf (o : Outside) (script : Script) (books : List Book) : Type 0 where
+-- the source had a script, whose run gave these books and this history
+pub record IsRunOf (o : Outside) (script : Script) (books : List Book) (history : List Entry) : Type 0 where
   pub bytes : List ℕ
   pub read : IsRead o bytes
   pub spelled : Spells bytes script
-  pub run : IsPlainRun script.sessions books
+  pub run : IsPlainRun script.sessions books history
 
--- the script was run, and the whole text of its books written without a fault
+-- the script was run, and the whole text of its books and its history written without a fault
 pub record IsRunDone (o : Outside) : Type 0 where
   pub script : Script
   pub books : List Book
-  pub ran : IsRunOf o script books
-  pub written : Appends o.held o.held_after (output_text script.sessions books)
+  pub history : List Entry
+  pub ran : IsRunOf o script books history
+  pub written : Appends o.held o.held_after (output_text script.sessions books history 0 script.pool)
   pub faultless : o.write_faults_after ≡ o.write_faults
 
--- the script was run, and the sink failed in the text of its books
+-- the script was run, and the sink failed in that text
 pub record IsRunUnwritten (o : Outside) : Type 0 where
   pub script : Script
   pub books : List Book
-  pub ran : IsRunOf o script books
+  pub history : List Entry
+  pub ran : IsRunOf o script books history
   pub failed : Rose o.write_faults o.write_faults_after
-  pub part : AppendsPart o.held o.held_after (output_text script.sessions books)
+  pub part : AppendsPart o.held o.held_after (output_text script.sessions books history 0 script.pool)
 
 -- the bytes spell a script, and the line of how much it has was written without a fault
 pub record IsCheckDone (o : Outside) : Type 0 where

@@ -1,4 +1,3 @@
 pub mod Asks
-pub mod Runnable
 pub mod Endings
 pub mod Parts

@@ -3,6 +3,7 @@ use Rattle.std.specs.Prelude.{◌≡◌, ℕ, List, Option}
 use Rattle.std.specs.Io.KnownBytes.{Appends}
 use Rattle.plain_cord.specs.declared.script.Script.{Script}
 use Rattle.plain_cord.specs.declared.reply.Book.{Book}
+use Rattle.plain_cord.specs.declared.history.Entry.{Entry}
 use Rattle.plain_cord.specs.Runs.{IsPlainRun}
 use Rattle.cord_port.specs.declared.reading.ReadRefused.{ReadRefused}
 use Rattle.cord_port.specs.declared.reading.ReadRefused.TheVariants as refusals
@@ -19,24 +20,26 @@ use Rattle.cord_sessions.specs.declared.asked.Asked.{Asked}
 use Rattle.cord_sessions.specs.declared.asked.Asked.TheVariants.{Run, Check}
 use Rattle.cord_sessions.specs.Endings.{Told, check_line, read_fault_line, too_long_line}
 
--- these books are those of a run of the script that the bytes spell
-pub record IsRunOfBytes (bytes : List ℕ) (script : Script) (books : List Book) : Type 0 where
+-- these books and this history are those of a run of the script that the bytes spell
+pub record IsRunOfBytes (bytes : List ℕ) (script : Script) (books : List Book) (history : List Entry) : Type 0 where
   pub spelled : Spells bytes script
-  pub run : IsPlainRun script.sessions books
+  pub run : IsPlainRun script.sessions books history
 
 pub record WritesAll (bytes : List ℕ) (held held_after : Option (List ℕ)) (faults faults_after : ℕ) : Type 0 where
   pub script : Script
   pub books : List Book
-  pub ran : IsRunOfBytes bytes script books
-  pub written : Appends held held_after (output_text script.sessions books)
+  pub history : List Entry
+  pub ran : IsRunOfBytes bytes script books history
+  pub written : Appends held held_after (output_text script.sessions books history 0 script.pool)
   pub faultless : faults_after ≡ faults
 
 pub record FailsToWrite (bytes : List ℕ) (held held_after : Option (List ℕ)) (faults faults_after : ℕ) : Type 0 where
   pub script : Script
   pub books : List Book
-  pub ran : IsRunOfBytes bytes script books
+  pub history : List Entry
+  pub ran : IsRunOfBytes bytes script books history
   pub failed : Rose faults faults_after
-  pub part : AppendsPart held held_after (output_text script.sessions books)
+  pub part : AppendsPart held held_after (output_text script.sessions books history 0 script.pool)
 
 pub record TellsFault (bytes : List ℕ) (held held_after : Option (List ℕ)) (faults faults_after : ℕ) : Type 0 where
   pub fault : ScriptError

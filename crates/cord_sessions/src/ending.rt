@@ -2,6 +2,8 @@
 ghost use Rattle.std.specs.Prelude.{◌≡◌};
 ghost use Rattle.cord_sessions.specs.Endings.{status_of};
 
+use cord_port::Releaser;
+
 /// The most bytes that a script may have.
 pub const MOST_SCRIPT: usize = 16_777_216;
 
@@ -22,6 +24,13 @@ pub enum Ending {
     Memory,
     /// The script has more than 16,777,216 bytes.
     TooLong,
+}
+
+/// How a command ended, and the boxes that were handed in, in their order.
+#[derive(Drop)]
+pub struct Ended {
+    pub ending: Ending,
+    pub returned: Vec<Box<dyn Releaser + Send>>,
 }
 
 impl Ending {

@@ -6,13 +6,12 @@ mod ending;
 mod laws;
 mod running;
 mod script_run;
-mod session;
 #[cfg(test)]
 mod tests;
 mod top;
 
+pub use board_sessions::{BoardCord, SessionRefused, run_session};
 pub use ending::{Ending, MOST_SCRIPT};
 pub use laws::{scripts_are_done, statuses_are_exact};
 pub use running::{Run, RunRefused, run_script};
-pub use session::{SessionRefused, run_session};
 pub use top::{Finish, check_script, run_program};

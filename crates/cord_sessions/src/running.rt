@@ -1,52 +1,55 @@
-//! All sessions of a script.
-ghost use Rattle.std.specs.Prelude.{◌≡◌, IfOk};
-ghost use Rattle.std.specs.List.{All};
+//! A script that was accepted, run.
+ghost use Rattle.std.specs.Prelude.{◌≡◌, IfOk, MatchResult};
 ghost use Rattle.plain_cord.specs.Runs.{IsPlainRun};
-ghost use Rattle.cord_sessions.specs.Runnable.{IsRunnable};
+ghost use Rattle.script_reader.specs.Limits.{IsWithinLimits};
 
-use crate::session::{SessionRefused, run_session};
-use cord_port::Gate;
+use board_sessions::run_sessions;
+use cord_board::Entry;
+use cord_port::{Gate, Memory, Releaser};
 use plain_cord::{Book, Script};
-use std::alloc::{AllocError, Global};
+use std::alloc::Global;
 use std::sync::Wait;
+use std::thread::Threads;
 
-/// What a script's run gives: a book for each session.
-#[derive(Debug, Drop)]
+/// What a script's run gives: a book for each session, the board's history, how many numbers of the pool are still in use, and
+/// the boxes that were handed in, in their order.
+#[derive(Drop)]
 pub struct Run {
     pub books: Vec<Book>,
+    pub history: Vec<Entry>,
+    pub numbers_left: u32,
+    pub returned: Vec<Box<dyn Releaser + Send>>,
 }
 
-/// Want of memory, of this call or of a session.
-#[derive(Clone, Copy, Debug)]
-pub struct RunRefused;
-
-impl From<AllocError> for RunRefused {
-    fn from(_error: AllocError) -> RunRefused {
-        RunRefused
-    }
+/// Want of memory, of this call or of a session. The boxes that were handed in come back, in their order.
+#[derive(Drop)]
+pub struct RunRefused {
+    pub returned: Vec<Box<dyn Releaser + Send>>,
 }
 
-impl From<SessionRefused> for RunRefused {
-    fn from(_refused: SessionRefused) -> RunRefused {
-        RunRefused
-    }
-}
-
-/// Runs an accepted script, its sessions one after another.
-pub fn run_script<R: Wait, G: Gate>(
+/// Runs an accepted script, its sessions side by side over one board, each in a thread of its own. A session whose thread can't
+/// be started is run by the caller. Cords are plain byte strings, so no number of the pool is in use, and no box is called.
+pub fn run_script<R: Threads + Wait + Sync, G: Gate + Sync>(
     rt: &R,
     alloc: Global,
     script: &Script,
     gate: &G,
+    releasers: Vec<Box<dyn Releaser + Send>>,
 ) -> Result<Run, RunRefused>
-    requires { All IsRunnable script.now.sessions }
-    ensures { IfOk result (λ run. IsPlainRun script.now.sessions run.books.items) }
+    requires accepted { IsWithinLimits script.now }
+    ensures run { IfOk result (λ run. IsPlainRun script.now.sessions run.books.items run.history.items) }
+    ensures left { IfOk result (λ run. run.numbers_left ≡ 0) }
+    ensures returned { MatchResult result (λ run. run.returned ≡ releasers) (λ refused. refused.returned ≡ releasers) }
 {
-    let sessions = script.sessions.as_slice();
-    let mut books = Vec::with_capacity(alloc, sessions.len())?;
-    for (number, session) in sessions.iter().enumerate() {
-        let book = run_session(rt, alloc, number, session, gate)?;
-        books.push_reserved(book);
+    match run_sessions(rt, alloc, script.sessions.as_slice(), gate) {
+        Ok((books, history)) => Ok(Run {
+            books,
+            history,
+            numbers_left: 0,
+            returned: releasers,
+        }),
+        Err(Memory) => Err(RunRefused {
+            returned: releasers,
+        }),
     }
-    Ok(Run { books })
 }

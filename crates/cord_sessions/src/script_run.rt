@@ -1,25 +1,27 @@
 //! A script that was read: run and written, or counted.
-ghost use Rattle.std.specs.Prelude.{◌≡◌, ◌≤◌, ◌^◌, ◌<◌, length, OnOk, OnErr};
+ghost use Rattle.std.specs.Prelude.{◌≡◌, ◌≤◌, ◌^◌, ◌<◌, ◌⊎◌, length, OnOk, OnErr};
 ghost use Rattle.std.specs.List.{sum_by};
 ghost use Rattle.script_words.specs.Causes.{word_of_cause};
 ghost use Rattle.script_reader.specs.Limits.{IsWithinLimits};
-ghost use Rattle.report_text.specs.Outputs.{refusal_line};
+ghost use Rattle.report_text.specs.Outputs.{IsPrintable, output_text, refusal_line};
 ghost use Rattle.cord_sessions.specs.declared.ending.TheConstants.{MOST_SCRIPT};
-ghost use Rattle.cord_sessions.specs.declared.asked.Asked.TheVariants.{Run, Check};
+ghost use Rattle.cord_sessions.specs.declared.asked.Asked.TheVariants as asked;
 ghost use Rattle.cord_sessions.specs.Endings.{Told, check_line};
 ghost use Rattle.std.specs.Io.KnownBytes.{Appends};
 ghost use Rattle.cord_port.specs.Causes.{Rose};
 ghost use Rattle.cord_port.specs.Texts.{AppendsPart};
 ghost use Rattle.cord_sessions.specs.Parts.{SaysOfBytes};
 
-use crate::ending::Ending;
-use crate::running::run_script;
-use cord_port::{Failed, Gate, Sink};
+use crate::ending::{Ended, Ending};
+use crate::running::{Run, RunRefused, run_script};
+use cord_port::{Failed, Gate, Releaser, Sink};
 use plain_cord::{Script, Session};
 use report_text::{write_refusal, write_run, write_summary};
+use run_laws::plain_runs_within_limits_are_printable;
 use script_reader::{ReadRefused, read_script};
 use std::alloc::Global;
 use std::sync::Wait;
+use std::thread::Threads;
 
 // The line of the first fault. A fault of the sink there changes no ending.
 fn tell_refusal<K: Sink>(number: u32, word: &[u8], sink: &mut K)
@@ -30,28 +32,57 @@ fn tell_refusal<K: Sink>(number: u32, word: &[u8], sink: &mut K)
 }
 
 /// Runs the script that the bytes spell, or tells their first fault.
-pub fn run_bytes<R: Wait, K: Sink, G: Gate>(
+pub fn run_bytes<R: Threads + Wait + Sync, K: Sink, G: Gate + Sync>(
     rt: &R,
     alloc: Global,
     bytes: &[u8],
     sink: &mut K,
     gate: &G,
-) -> Ending
+    releasers: Vec<Box<dyn Releaser + Send>>,
+) -> Ended
     requires { length bytes.now ≤ MOST_SCRIPT }
-    ensures { SaysOfBytes Run bytes.now (K.held sink.old) (K.held sink.new) (K.faults sink.old) (K.faults sink.new) result }
+    ensures says { SaysOfBytes asked.Run bytes.now (K.held sink.old) (K.held sink.new) (K.faults sink.old) (K.faults sink.new) result.ending }
+    ensures returned { result.returned ≡ releasers }
 {
     let script = match read_script(alloc, bytes) {
         Ok(script) => script,
-        Err(ReadRefused::Memory) => return Ending::Memory,
+        Err(ReadRefused::Memory) => {
+            return Ended {
+                ending: Ending::Memory,
+                returned: releasers,
+            };
+        }
         Err(ReadRefused::Script(error)) => {
             tell_refusal(error.line, error.cause.word(), sink);
-            return Ending::Refused;
+            return Ended {
+                ending: Ending::Refused,
+                returned: releasers,
+            };
         }
     };
-    let Ok(run) = run_script(rt, alloc, &script, gate) else {
-        return Ending::Memory;
-    };
-    match write_run(&script, &run.books, sink) {
+    match run_script(rt, alloc, &script, gate, releasers) {
+        Ok(run) => {
+            // A law: what a run gives can be written.
+            plain_runs_within_limits_are_printable();
+            let ending = write_out(&script, &run, sink);
+            let Run { returned, .. } = run;
+            Ended { ending, returned }
+        }
+        Err(RunRefused { returned }) => Ended {
+            ending: Ending::Memory,
+            returned,
+        },
+    }
+}
+
+// The text of a run.
+fn write_out<K: Sink>(script: &Script, run: &Run, sink: &mut K) -> Ending
+    requires { IsPrintable script.now.sessions run.now.books.items run.now.history.items }
+    ensures done { result ≡ Ending.Done → Appends (K.held sink.old) (K.held sink.new) (output_text script.now.sessions run.now.books.items run.now.history.items run.now.numbers_left script.now.pool) × (K.faults sink.new ≡ K.faults sink.old) }
+    ensures ending { (result ≡ Ending.Done) ⊎ (result ≡ Ending.WriteFault) }
+    ensures failed { result ≡ Ending.WriteFault → Rose (K.faults sink.old) (K.faults sink.new) × AppendsPart (K.held sink.old) (K.held sink.new) (output_text script.now.sessions run.now.books.items run.now.history.items run.now.numbers_left script.now.pool) }
+{
+    match write_run(script, &run.books, &run.history, run.numbers_left, sink) {
         Ok(()) => Ending::Done,
         Err(_) => Ending::WriteFault,
     }
@@ -60,7 +91,7 @@ pub fn run_bytes<R: Wait, K: Sink, G: Gate>(
 /// Tells how much the script has that the bytes spell, or their first fault.
 pub fn check_bytes<K: Sink>(alloc: Global, bytes: &[u8], sink: &mut K) -> Ending
     requires { length bytes.now ≤ MOST_SCRIPT }
-    ensures { SaysOfBytes Check bytes.now (K.held sink.old) (K.held sink.new) (K.faults sink.old) (K.faults sink.new) result }
+    ensures { SaysOfBytes asked.Check bytes.now (K.held sink.old) (K.held sink.new) (K.faults sink.old) (K.faults sink.new) result }
 {
     let script = match read_script(alloc, bytes) {
         Ok(script) => script,

@@ -6,7 +6,7 @@ use std::process::Abort;
 use std::sync::Wait;
 use std::sync::atomic::{AtomicUsize, Ordering};
 use std::test::Fail;
-use std::thread::Threads;
+use std::thread::{Threads, yield_now};
 
 // A gate that counts its calls, and those that came in the order of a session's commands.
 #[derive(Drop)]
@@ -85,9 +85,16 @@ impl Dialogue {
         Ok(())
     }
 
-    // Runs the session, and holds its output against what is wanted.
-    fn hold<R: Threads + Wait + Abort + Sync>(mut self, rt: &R, alloc: Global) -> Result<(), Fail> {
+    // Runs the session, and holds its output against what is wanted, with this history.
+    fn hold<R: Threads + Wait + Abort + Sync>(
+        mut self,
+        rt: &R,
+        alloc: Global,
+        history: &str,
+    ) -> Result<(), Fail> {
         self.script.push_str("end")?;
+        self.wanted.push_str(history)?;
+        self.wanted.push_str("pool 0 of 65536\n")?;
         let mut source = source_of(alloc, self.script.as_str())?;
         let mut sink = MemorySink::new(alloc, 65536, 65536, Vec::new(alloc))?;
         let status = status_of(rt, alloc, "run", &mut source, &mut sink)?;
@@ -99,6 +106,11 @@ impl Dialogue {
 
 const HELLO: &str = "cords 1\nsession a\nlet x \"ab\"\nappend x \"c\"\nsize x\nprint x\nend\n";
 
+// What is written behind the answers where no command came to the board.
+const NO_HISTORY: &str = "history 0\n";
+
+const HELLO_TEXT: &str = "session a\nok\nok\n3\n\"abc\"\nhistory 0\npool 0 of 65536\n";
+
 const HEADER: &str = "refused at line 1: header\n";
 
 const TEXT: &str = "refused at line 3: text\n";
@@ -108,16 +120,16 @@ const UNENDED: &str = "refused at line 3: unended\n";
 #[test]
 fn script_is_run_and_checked(rt: HostRuntime) -> Result<(), Fail> {
     for (script, ran, checked, status) in [
+        (HELLO, HELLO_TEXT, "ok 1 sessions 4 commands\n", 0),
         (
-            HELLO,
-            "session a\nok\nok\n3\n\"abc\"\n",
-            "ok 1 sessions 4 commands\n",
+            "cords 1\n",
+            "history 0\npool 0 of 65536\n",
+            "ok 0 sessions 0 commands\n",
             0,
         ),
-        ("cords 1\n", "", "ok 0 sessions 0 commands\n", 0),
         (
             "cords 1\nsession a\nend\n",
-            "session a\n",
+            "session a\nhistory 0\npool 0 of 65536\n",
             "ok 1 sessions 0 commands\n",
             0,
         ),
@@ -125,6 +137,12 @@ fn script_is_run_and_checked(rt: HostRuntime) -> Result<(), Fail> {
         ("cords 1\nsession a\nlet x \"ab\n", TEXT, TEXT, 1),
         ("cords 1\nsession a\nlet x \"\\q\"\n", TEXT, TEXT, 1),
         ("cords 1\nsession a\n", UNENDED, UNENDED, 1),
+        (
+            "cords 1\nsession a\nend\nsession a\n",
+            "refused at line 4: duplicate\n",
+            "refused at line 4: duplicate\n",
+            1,
+        ),
     ] {
         for (word, wanted) in [("run", ran), ("check", checked)] {
             let mut source = source_of(rt.alloc(), script)?;
@@ -178,7 +196,7 @@ append q "a" => ok
 setsum p 7 => ok
 compare p q => equal"#,
     )?;
-    dialogue.hold(&rt, rt.alloc())
+    dialogue.hold(&rt, rt.alloc(), NO_HISTORY)
 }
 
 #[test]
@@ -207,7 +225,7 @@ sum z => none
 clear y => ok
 sum y => none"#,
     )?;
-    dialogue.hold(&rt, rt.alloc())
+    dialogue.hold(&rt, rt.alloc(), NO_HISTORY)
 }
 
 #[test]
@@ -257,7 +275,7 @@ sum x => none | sum 7 | sum 7 | sum 7"#;
                 dialogue.add(command, answers.split(" | ").nth(column).unwrap_or(""))?;
             }
         }
-        dialogue.hold(&rt, rt.alloc())?;
+        dialogue.hold(&rt, rt.alloc(), NO_HISTORY)?;
     }
     Ok(())
 }
@@ -306,7 +324,7 @@ compare x x1 => less"#,
         let answer = format!(in rt.alloc(); "\"{i}\"")?;
         dialogue.add(command.as_str(), answer.as_str())?;
     }
-    dialogue.hold(&rt, rt.alloc())
+    dialogue.hold(&rt, rt.alloc(), NO_HISTORY)
 }
 
 #[test]
@@ -356,7 +374,7 @@ fn other_words_get_the_usage_line_and_releasers_come_back(rt: HostRuntime) -> Re
     let usage = "usage: cords run | cords check | cords load SEED SESSIONS COMMANDS\n";
     let none: [&str; 0] = [];
     for (words, wanted, status, calls) in [
-        (["run"].as_slice(), "session a\nok\nok\n3\n\"abc\"\n", 0, 5),
+        (["run"].as_slice(), HELLO_TEXT, 0, 5),
         (["check"].as_slice(), "ok 1 sessions 4 commands\n", 0, 0),
         (none.as_slice(), usage, 2, 0),
         (["run", "x"].as_slice(), usage, 2, 0),
@@ -392,5 +410,114 @@ fn other_words_get_the_usage_line_and_releasers_come_back(rt: HostRuntime) -> Re
         assert_eq!(rt; gate.calls.load(Ordering::Relaxed), calls);
         assert_eq!(rt; gate.in_order.load(Ordering::Relaxed), calls);
     }
+    Ok(())
+}
+
+#[test]
+fn a_session_uses_the_board_alone(rt: HostRuntime) -> Result<(), Fail> {
+    let mut dialogue = Dialogue::new(rt.alloc())?;
+    dialogue.add_lines(
+        r#"let x "p" => ok
+put x 3 => ok
+peek 3 y => ok
+let z "qq" => ok
+swap z 3 => ok
+print z => "p"
+size x => 0
+swap z 4 => ! empty 4
+swap n 3 => ! unset n
+put n 3 => ! unset n
+take 4 z => ! empty 4
+print z => "p"
+peek 63 z => ! empty 63
+take 3 w => ok
+print w => "qq"
+print y => "p"
+setsum y 7 => ok
+put y 63 => ok
+sum y => none
+take 63 y => ok
+sum y => sum 7"#,
+    )?;
+    dialogue.hold(
+        &rt,
+        rt.alloc(),
+        "history 9\na 1 put 3 ok 1\na 2 peek 3 ok 1\na 3 swap 3 ok 2 1\na 4 swap 4 empty\na 5 take 4 empty\na 6 peek 63 empty\na 7 take 3 ok 2\na 8 put 63 ok 1\na 9 take 63 ok 1\n",
+    )
+}
+
+#[test]
+fn two_sessions_meet_at_a_cell(rt: HostRuntime) -> Result<(), Fail> {
+    let script =
+        "cords 1\nsession a\nlet x \"hello\"\nput x 0\nend\nsession b\ntake 0 y\nprint y\nend\n";
+    let put_first =
+        "session a\nok\nok\nsession b\nok\n\"hello\"\nhistory 2\na 1 put 0 ok 5\nb 1 take 0 ok 5\npool 0 of 65536\n";
+    let take_first =
+        "session a\nok\nok\nsession b\n! empty 0\n! unset y\nhistory 2\nb 1 take 0 empty\na 1 put 0 ok 5\npool 0 of 65536\n";
+    for _ in 0..100 {
+        let mut source = source_of(rt.alloc(), script)?;
+        let mut sink = MemorySink::new(rt.alloc(), 256, 256, Vec::new(rt.alloc()))?;
+        let status = status_of(&rt, rt.alloc(), "run", &mut source, &mut sink)?;
+        assert_eq!(rt; status, 0);
+        assert!(&rt;
+            sink.bytes() == put_first.as_bytes() || sink.bytes() == take_first.as_bytes(),
+            "one of the two"
+        );
+    }
+    Ok(())
+}
+
+// A gate at which two sessions wait for each other before their second commands, at most so many turns.
+#[derive(Drop)]
+struct MeetingGate {
+    came: AtomicUsize,
+    met: AtomicUsize,
+}
+
+const TURNS: u32 = 50_000_000;
+
+impl Gate for MeetingGate {
+    fn before<R: Wait>(&self, _rt: &R, _session: usize, command: usize) {
+        if command != 1 {
+            return;
+        }
+        self.came.fetch_add(1, Ordering::SeqCst);
+        for _ in 0..TURNS {
+            if self.came.load(Ordering::SeqCst) == 2 {
+                self.met.fetch_add(1, Ordering::SeqCst);
+                return;
+            }
+            yield_now();
+        }
+    }
+}
+
+#[test]
+fn sessions_run_side_by_side(rt: HostRuntime) -> Result<(), Fail> {
+    let script =
+        "cords 1\nsession a\nlet x \"a\"\nsize x\nend\nsession b\nlet x \"a\"\nsize x\nend\n";
+    let gate = MeetingGate {
+        came: AtomicUsize::new(0),
+        met: AtomicUsize::new(0),
+    };
+    let words = vec![in rt.alloc(); String::from_str(rt.alloc(), "run")?]?;
+    let mut source = source_of(rt.alloc(), script)?;
+    let mut sink = MemorySink::new(rt.alloc(), 256, 256, Vec::new(rt.alloc()))?;
+    let boxes = Vec::new(rt.alloc());
+    let finish = run_program(
+        &rt,
+        rt.alloc(),
+        &words,
+        &mut source,
+        &mut sink,
+        &gate,
+        boxes,
+    );
+    assert_eq!(rt; finish.status, 0);
+    assert_eq!(rt; gate.met.load(Ordering::SeqCst), 2);
+    assert_eq!(rt;
+        sink.bytes(),
+        b"session a\nok\n1\nsession b\nok\n1\nhistory 0\npool 0 of 65536\n".as_slice()
+    );
     Ok(())
 }

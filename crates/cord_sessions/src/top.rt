@@ -6,7 +6,7 @@ ghost use Rattle.cord_sessions.specs.Parts.{TellsUnread};
 ghost use Rattle.cord_sessions.specs.declared.asked.Asked.TheVariants.{Run, Check};
 
 use crate::asked::{Asked, command_of};
-use crate::ending::{Ending, MOST_SCRIPT};
+use crate::ending::{Ended, Ending, MOST_SCRIPT};
 use crate::script_run::{check_bytes, run_bytes};
 use cord_port::{Gate, ReadRefused, Releaser, Sink, Source, read_all, write_all};
 use std::alloc::Global;
@@ -44,18 +44,23 @@ fn tell_unread<K: Sink>(refused: ReadRefused, sink: &mut K) -> Ending
     }
 }
 
-fn run_to_end<R: Wait, S: Source, K: Sink, G: Gate>(
+fn run_to_end<R: Threads + Wait + Sync, S: Source, K: Sink, G: Gate + Sync>(
     rt: &R,
     alloc: Global,
     source: &mut S,
     sink: &mut K,
     gate: &G,
-) -> Ending
-    ensures { SaysOf Run (record { left = S.left source.old; left_after = S.left source.new; given = S.given source.old; given_after = S.given source.new; read_faults = S.faults source.old; read_faults_after = S.faults source.new; held = K.held sink.old; held_after = K.held sink.new; write_faults = K.faults sink.old; write_faults_after = K.faults sink.new }) result }
+    releasers: Vec<Box<dyn Releaser + Send>>,
+) -> Ended
+    ensures says { SaysOf Run (record { left = S.left source.old; left_after = S.left source.new; given = S.given source.old; given_after = S.given source.new; read_faults = S.faults source.old; read_faults_after = S.faults source.new; held = K.held sink.old; held_after = K.held sink.new; write_faults = K.faults sink.old; write_faults_after = K.faults sink.new }) result.ending }
+    ensures returned { result.returned ≡ releasers }
 {
     match read_all(alloc, source, MOST_SCRIPT) {
-        Ok(bytes) => run_bytes(rt, alloc, &bytes, sink, gate),
-        Err(refused) => tell_unread(refused, sink),
+        Ok(bytes) => run_bytes(rt, alloc, &bytes, sink, gate, releasers),
+        Err(refused) => Ended {
+            ending: tell_unread(refused, sink),
+            returned: releasers,
+        },
     }
 }
 
@@ -75,31 +80,39 @@ pub fn check_script<S: Source, K: Sink>(alloc: Global, source: &mut S, sink: &mu
     check_to_end(alloc, source, sink).status()
 }
 
-fn do_asked<R: Wait, S: Source, K: Sink, G: Gate>(
+fn do_asked<R: Threads + Wait + Sync, S: Source, K: Sink, G: Gate + Sync>(
     rt: &R,
     alloc: Global,
     words: &[String],
     source: &mut S,
     sink: &mut K,
     gate: &G,
-) -> Ending
-    ensures { Says (map string_bytes words.now) (record { left = S.left source.old; left_after = S.left source.new; given = S.given source.old; given_after = S.given source.new; read_faults = S.faults source.old; read_faults_after = S.faults source.new; held = K.held sink.old; held_after = K.held sink.new; write_faults = K.faults sink.old; write_faults_after = K.faults sink.new }) result }
+    releasers: Vec<Box<dyn Releaser + Send>>,
+) -> Ended
+    ensures says { Says (map string_bytes words.now) (record { left = S.left source.old; left_after = S.left source.new; given = S.given source.old; given_after = S.given source.new; read_faults = S.faults source.old; read_faults_after = S.faults source.new; held = K.held sink.old; held_after = K.held sink.new; write_faults = K.faults sink.old; write_faults_after = K.faults sink.new }) result.ending }
+    ensures returned { result.returned ≡ releasers }
 {
     match command_of(words) {
-        Some(Asked::Run) => run_to_end(rt, alloc, source, sink, gate),
-        Some(Asked::Check) => check_to_end(alloc, source, sink),
+        Some(Asked::Run) => run_to_end(rt, alloc, source, sink, gate, releasers),
+        Some(Asked::Check) => Ended {
+            ending: check_to_end(alloc, source, sink),
+            returned: releasers,
+        },
         None => {
             tell(
                 sink,
                 b"usage: cords run | cords check | cords load SEED SESSIONS COMMANDS\n",
             );
-            Ending::Usage
+            Ended {
+                ending: Ending::Usage,
+                returned: releasers,
+            }
         }
     }
 }
 
 /// Does what the words ask for. `run` reads a script from the source to its end, runs it, and writes its text to the
-/// sink, a line at a time; `check` tells how much the script has. The releasers come back as they were.
+/// sink, a line at a time; `check` tells how much the script has. The boxes come back as they were.
 pub fn run_program<R: Threads + Wait + Sync, S: Source, K: Sink, G: Gate + Sync>(
     rt: &R,
     alloc: Global,
@@ -112,9 +125,9 @@ pub fn run_program<R: Threads + Wait + Sync, S: Source, K: Sink, G: Gate + Sync>
     ensures ending { (ending : Ending_value) × (result.status ≡ status_of ending) × Says (map string_bytes words.now) (record { left = S.left source.old; left_after = S.left source.new; given = S.given source.old; given_after = S.given source.new; read_faults = S.faults source.old; read_faults_after = S.faults source.new; held = K.held sink.old; held_after = K.held sink.new; write_faults = K.faults sink.old; write_faults_after = K.faults sink.new }) ending }
     ensures returned { result.returned ≡ releasers }
 {
-    let ending = do_asked(rt, alloc, words, source, sink, gate);
+    let Ended { ending, returned } = do_asked(rt, alloc, words, source, sink, gate, releasers);
     Finish {
         status: ending.status(),
-        returned: releasers,
+        returned,
     }
 }

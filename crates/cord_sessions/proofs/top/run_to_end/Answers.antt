@@ -6,8 +6,8 @@ use Rattle.cord_sessions.specs.Parts.{SaysOfBytes}
 use Rattle.cord_sessions.proofs.Says.{says-of-bytes}
 use Rattle.cord_sessions.proofs.top.run_to_end.Goals as goal
 
-pub returns-in-Ok : goal.returns-in-Ok
-returns-in-Ok g c =
+pub returns-in-Ok-clause-says : goal.returns-in-Ok-clause-says
+returns-in-Ok-clause-says g c =
     let held = g.K.Sink.held c.args.sink.now in
     let held_after = g.K.Sink.held c.run_bytes.new.sink in
     let faults = g.K.Sink.faults c.args.sink.now in
@@ -30,4 +30,4 @@ returns-in-Ok g c =
       within = c.in-Ok.ensures.within;
       faultless = c.in-Ok.ensures.kept (λ same. cc);
     } in
-    says-of-bytes Run o c.in-Ok.bytes.items c.run_bytes.result read (subst (λ (bytes : List ℕ). SaysOfBytes Run bytes held held_after faults faults_after c.run_bytes.result) c.deref.ensures.value c.run_bytes.ensures)
+    says-of-bytes Run o c.in-Ok.bytes.items c.run_bytes.result.ending read (subst (λ (bytes : List ℕ). SaysOfBytes Run bytes held held_after faults faults_after c.run_bytes.result.ending) c.deref.ensures.value c.run_bytes.ensures.says)
