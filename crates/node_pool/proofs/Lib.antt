@@ -1,7 +1,9 @@
 -- The lemmas of this crate.
 pub mod Calling
 pub mod Closing
+pub mod Finishing
 pub mod Hiring
+pub mod Marking
 pub mod Passing
 pub mod Seats
 pub mod Starting

@@ -2,6 +2,8 @@
 pub mod Answers
 pub mod Boxes
 pub mod Closes
+pub mod Edits
+pub mod Finishes
 pub mod Passes
 pub mod Paths
 pub mod Starts

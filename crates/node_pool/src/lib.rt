@@ -5,7 +5,10 @@
 
 mod calls;
 mod close;
+mod finish;
+mod laws;
 mod look;
+mod mark;
 mod naming;
 mod outlet;
 mod passes;
@@ -15,13 +18,16 @@ mod start;
 #[cfg(test)]
 mod tests;
 mod tokens;
+#[cfg(test)]
+mod tree_tests;
 mod view;
 mod words;
 
 pub use calls::{Left, TakeError};
 pub use close::Closed;
+pub use laws::paths_that_looks_find_are_lone;
 pub use naming::Naming;
-pub use node_edges::{Body, Edge, Memory};
+pub use node_edges::{Body, Change, Edge, Memory, Side};
 pub use outlet::Outlet;
 pub use passes::PassLimit;
 pub use pool::Pool;

@@ -3,7 +3,7 @@ use Rattle.std.proofs.Common.{◌≡◌, ◌≢◌, ◌⊎◌, inl, inr, ⊎_eli
 use Rattle.std.specs.Prelude.{Option, Some, None}
 use mathlib.Core.Option.{none, some}
 use lib.ListN.{get_elem?}
-use Rattle.atomic_table.proofs.Lists.{at_set}
+use Rattle.atomic_table.proofs.Lists.{at_set, set_here}
 use Rattle.atomic_table.specs.Table.{State, Me, keeps, step, stepped, Allows}
 use Rattle.node_forest.specs.declared.kind.Kind.TheVariants.{Flat, External, Branch}
 use Rattle.node_forest.specs.Forest.{children}
@@ -16,18 +16,20 @@ use Rattle.node_forest.proofs.Members.{root_occurs, child_occurs, below_in, occu
 use Rattle.count_core.specs.Views.{without}
 use Rattle.count_core.specs.Marks.{Change, resize, exchange, Site, site, branch_of, resized, unpulled, edges_after, edit, raised, Fits, FitsAt, edits, FitEach, LonePath, FitsRoot, holds_of, edited_holds, numbers_on}
 use Rattle.node_forest.specs.Sides.{outgoing}
-use Rattle.count_core.specs.Steps.{mark, Does, word_at, holds_at, changed, with_views, after}
+use Rattle.count_core.specs.Steps.{mark, Does, roots, word_at, holds_at, changed, with_views, after}
 use Rattle.count_core.proofs.Edits.{Shuffled, shuffled_exchange, shuffled_without, edit_lone, child_in}
 use Rattle.pool_rule.specs.Views.{View}
 use Rattle.pool_rule.specs.Rules.{holds_of as held_by, world, Among, IsSane, Ruled, Narrow}
-use Rattle.pool_rule.specs.Pools.{Terms, Member, AreBare, IsAlone, AreLone, Kept}
+use Rattle.pool_rule.specs.Notes.{use_of}
+use Rattle.pool_rule.specs.Pools.{Terms, Member, AreBare, IsAlone, AreLone, Slotted, Kept}
 use Rattle.pool_rule.specs.Marks.{Leads, marking, CanChange, IsLonePath, marked, KeepsNodes}
 use Rattle.pool_rule.proofs.Allowed.{Moved, told}
 use Rattle.pool_rule.proofs.Holds.{child_below, below_child, occurs_without}
-use Rattle.pool_rule.proofs.Pools.{told_after}
+use Rattle.pool_rule.proofs.Pools.{told_after, roots_set}
+use Rattle.pool_rule.proofs.Slots.{slotted_same, same_step}
 use Rattle.pool_rule.proofs.Tallies.{tallied_step, same_tally}
 use Rattle.pool_rule.proofs.Worlds.{at_lt, sane_at, held_at, set_same, world_stepped, word_world, width_world, places_world, spares_set}
-use Rattle.pool_rule.proofs.Steps.{low, first_held, does_ruled}
+use Rattle.pool_rule.proofs.Steps.{low, seen, first_held, does_ruled}
 
 -- ---- what occurs in a tree, and in a row of trees of which one is changed
 head_or_child : (x t : Node) (hs : List Node) → Occurs x (t ∷ hs) → (x ≡ t) ⊎ (Occurs x (children t) ⊎ Occurs x hs)
@@ -301,6 +303,37 @@ module _ {S : Type 0} (p : Terms S) (s : State S View) (id : ℕ) (v : View) (r 
   pub ones_on : IsLonePath root path v → (j : ℕ) → Among j (numbers_on root path) → get_or s.words j 0 ≡ 1
   ones_on lone j a = (r.lone id j v at (lone j a)).one
 
+  -- the table's trees, before and after
+  abbrev all_before : List Node
+  all_before = roots (map held_by s.views)
+
+  abbrev all_after : List Node
+  all_after = roots (map held_by (set s.views id (marking root path cs v)))
+
+  -- an external keeps its number, and no other node gets it
+  slotted_marked : (c : List (ℕ × S)) → Ruled p.numbers (stepped s (number root) (get_or s.words (number root) 0) id c (marking root path cs v) keeps)
+      → Slotted p (set s.words (number root) (get_or s.words (number root) 0)) s.homes all_after (set s.views id (marking root path cs v))
+  unfolding w n word
+  slotted_marked c ruled =
+      let here = set_here s.views id (marking root path cs v) (at_lt s.views id v at) in
+      let before : (x : Node) → Occurs x v.holds → Occurs x all_before = λ x a. seen p.numbers s id v r.counted at x a in
+      let after_ : (x : Node) → Occurs x (marking root path cs v).holds → Occurs x all_after =
+      λ x a. seen p.numbers (stepped s (number root) (get_or s.words (number root) 0) id c (marking root path cs v) keeps) id (marking root path cs v) ruled here x a in
+      slotted_same p s.words (set s.words (number root) (get_or s.words (number root) 0)) s.homes all_before all_after s.views (set s.views id (marking root path cs v)) (same_step s.views id v (marking root path cs v) at refl refl refl)
+      (λ x o e. ⊎_elim (λ a. before x (nodes.externals x e a)) (λ a. a) (roots_set s.views id (marking root path cs v) x o))
+      (λ u h live. record {
+        low = live.low;
+        word = subst (λ (z : List ℕ). get_or z u.number 0 ≢ 0) (sym words_same) live.word;
+        node = λ x o e. ⊎_elim
+            (λ a. let was = nodes.numbers x a in
+            let known = live.node was.0 (before was.0 was.1) (was.2 ∙ e) in
+            let same : was.0 ≡ x = ruled.sound.agreed was.0 x (after_ was.0 (nodes.back was.0 known.0 was.1)) o was.2 in
+            subst (λ (z : Node). (z.0.kind ≡ External) × (use_of z ≡ u)) same known)
+            (λ a. live.node x a e)
+            (roots_set s.views id (marking root path cs v) x o);
+      })
+      r.slotted
+
   pub marked_kept : (c : List (ℕ × S)) → 0 < v.spare → Ruled p.numbers (stepped s (number root) (get_or s.words (number root) 0) id c (marking root path cs v) keeps)
       → Kept p (stepped s (number root) (get_or s.words (number root) 0) id c (marking root path cs v) keeps)
   unfolding w n word
@@ -313,6 +346,7 @@ module _ {S : Type 0} (p : Terms S) (s : State S View) (id : ℕ) (v : View) (r 
         lone = subst (λ (z : List ℕ). AreLone p.numbers z (set s.views id (marking root path cs v))) (sym words_same) lone_marked;
         tallied = tallied_step (get_or s.words p.numbers 0) (get_or (set s.words (number root) (get_or s.words (number root) 0)) p.numbers 0) s.views id v (marking root path cs v)
             (same_tally (get_or s.words p.numbers 0) v (marking root path cs v) (record { made = refl; ended = refl; counts = refl; joined = refl })) at (omega (arith, e)) r.tallied;
+        slotted = slotted_marked c ruled;
       }
 
 -- ---- as the pool's call asks for it

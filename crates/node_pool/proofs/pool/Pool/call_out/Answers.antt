@@ -1,10 +1,11 @@
 -- What the proof of `Pool::call_out` needs beyond the search.
-use Rattle.std.proofs.Common.{◌≡◌, ℕ, [], ◌∷◌, sym, ap, ◌∙◌, arith}
+use Rattle.std.proofs.Common.{◌≡◌, ℕ, ◌<◌, ◌+◌, List, [], ◌∷◌, sym, ap, ◌∙◌, subst, arith}
 use Rattle.std.specs.Prelude.{Option, Some, None, slice_index_or}
 use Rattle.std.specs.Option.{option_map}
-use Rattle.atomic_table.specs.Table.{rest}
-use Rattle.pool_rule.specs.Notes.{use_of}
+use Rattle.atomic_table.specs.Table.{Me, rest}
+use Rattle.pool_rule.specs.Notes.{Use, use_of}
 use Rattle.pool_rule.specs.Pools.{Handed, Box}
+use Rattle.pool_rule.specs.Views.{View}
 use Rattle.pool_rule.proofs.Calls.{homes}
 use Rattle.node_pool.specs.declared.outlet.Outlet.{Outlet}
 use Rattle.node_pool.specs.Boxes.{box_of}
