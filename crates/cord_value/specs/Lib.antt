@@ -1,0 +1,5 @@
+-- The definitions of this crate.
+pub mod Forms
+pub mod Refusals
+pub mod Views
+pub mod Workers

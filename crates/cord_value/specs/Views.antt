@@ -1,0 +1,30 @@
+-- What contracts see of a cord.
+use Rattle.std.specs.Prelude.{ℕ, ◌≡◌, ◌<◌, ◌≤◌, List, [], ◌∷◌, length, Option, Some, None, refl}
+use Rattle.std.specs.Coded.{Coded, code_by, coded×, coded_ℕ, coded_list, coded_option}
+use Rattle.node_forest.specs.Label.{Node, number}
+use Rattle.node_forest.specs.Codes.{coded_node}
+use Rattle.node_edges.specs.Text.{text}
+use Rattle.node_edges.specs.Trees.{IsWellFormed}
+
+-- its bytes, and its tree where it has one
+pub record CordView : Type 0 where
+  pub bytes : List ℕ
+  pub tree : Option Node
+
+abbrev pub coded_cord : Coded CordView
+coded_cord = code_by (List ℕ × Option Node) (coded× (coded_list coded_ℕ) (coded_option coded_node)) (λ c. (c.bytes, c.tree)) (λ p. record { bytes = p.0; tree = p.1 }) (λ _. refl)
+
+-- there is a tree exactly where there are more than 15 bytes; it is well formed, and its text is the bytes
+abbrev pub IsTreeOf : List ℕ → Option Node → Type 0
+IsTreeOf bytes None = length bytes ≤ 15
+IsTreeOf bytes (Some e) = IsWellFormed e × (text e ≡ bytes) × (15 < length bytes)
+
+-- the number of a tree's root
+abbrev pub numbers_of : Option Node → List ℕ
+numbers_of None = []
+numbers_of (Some e) = number e ∷ []
+
+-- a tree has a pass
+abbrev pub passes_of : Option Node → ℕ
+passes_of None = 0
+passes_of (Some e) = 1

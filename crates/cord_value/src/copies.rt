@@ -1,0 +1,103 @@
+//! Copies, which share the tree.
+ghost use Rattle.std.specs.Prelude.{◌≡◌, ◌↔◌, ◌≤◌, [], ◌∷◌, length, None, Some, IsSome, IfOk, IfErr, IfSome};
+ghost use Rattle.cord_value.specs.Workers.{Keeps, IsBalanced};
+ghost use Rattle.cord_value.specs.Refusals.{IsCopyRefused};
+ghost use Rattle.cord_value.specs.Views.{passes_of};
+
+use crate::cord::{Cord, Form};
+use crate::inline::inline_of;
+use crate::refusals::{CopyRefused, CordError};
+use cord_port::Releaser;
+use node_pool::{Edge, Naming, Pass, PassLimit, Pool, Worker};
+
+impl<P: Naming> Cord<P> {
+    /// A cord with the very same tree, under a pass of its own, or with the same inline bytes.
+    pub fn copy<B: Releaser>(
+        &mut self,
+        pool: &Pool<P, B>,
+        w: &mut Worker<P>,
+    ) -> Result<Cord<P>, CordError>
+        requires room { length w.old.holds ≤ 96 }
+        ensures kept { self.new ≡ self.old }
+        ensures same { IfOk result (λ c. c ≡ self.old) }
+        ensures worker { IfOk result (λ c. Keeps [] (passes_of c.tree) 0 w.old w.new) }
+        ensures refused { IfErr result (λ x. IsCopyRefused P.limit self.old.tree x w.old w.new) }
+        ensures balanced { IfErr result (λ _. IsBalanced w.old w.new) }
+    {
+        if let Form::Inline(bytes) = &self.form {
+            return Ok(Cord {
+                form: Form::Inline(inline_of(bytes.as_slice())),
+            });
+        }
+        let pass = match pool.pass(w) {
+            Ok(pass) => pass,
+            Err(PassLimit { found }) => return Err(CordError::PassLimit { found }),
+        };
+        match self.copy_into(pool, w, pass) {
+            Ok((copy, _)) => Ok(copy),
+            Err(CopyRefused { pass }) => {
+                pool.end(w, pass);
+                Err(CordError::Memory)
+            }
+        }
+    }
+
+    /// The same into an empty pass, which comes back where the cord has no tree.
+    pub fn copy_into<B: Releaser>(
+        &mut self,
+        pool: &Pool<P, B>,
+        w: &mut Worker<P>,
+        pass: Pass<P>,
+    ) -> Result<(Cord<P>, Option<Pass<P>>), CopyRefused<P>>
+        requires room { length w.old.holds ≤ 96 }
+        requires empty { pass.holds ≡ [] }
+        ensures kept { self.new ≡ self.old }
+        ensures same { IfOk result (λ r. r.0 ≡ self.old) }
+        ensures spent { IfOk result (λ r. IsSome r.1 ↔ (self.old.tree ≡ None)) }
+        ensures back { IfOk result (λ r. IfSome r.1 (λ p. p.holds ≡ [])) }
+        ensures worker { IfOk result (λ _. Keeps [] 0 0 w.old w.new) }
+        ensures refused { IfErr result (λ r. (r.pass.holds ≡ []) × (w.new ≡ w.old)) }
+        ensures memory { IfErr result (λ _. IsSome self.old.tree) }
+    {
+        let mut pass = pass;
+        match &mut self.form {
+            Form::Inline(bytes) => {
+                let copy = Cord {
+                    form: Form::Inline(inline_of(bytes.as_slice())),
+                };
+                Ok((copy, Some(pass)))
+            }
+            Form::Tree { pass: own, root } => {
+                let Ok(again) = root.again() else {
+                    return Err(CopyRefused { pass });
+                };
+                share_tree(pool, w, own, &mut pass, root);
+                let copy = Cord {
+                    form: Form::Tree { pass, root: again },
+                };
+                Ok((copy, None))
+            }
+        }
+    }
+}
+
+// One hold more of the tree that a pass keeps, for an empty pass.
+fn share_tree<P: Naming, B: Releaser>(
+    pool: &Pool<P, B>,
+    w: &mut Worker<P>,
+    own: &mut Pass<P>,
+    other: &mut Pass<P>,
+    root: &Edge,
+)
+    requires room { length w.old.holds ≤ 96 }
+    requires own { own.old.holds ≡ root.now ∷ [] }
+    requires other { other.old.holds ≡ [] }
+    ensures own { own.new.holds ≡ root.now ∷ [] }
+    ensures other { other.new.holds ≡ root.now ∷ [] }
+    ensures worker { Keeps [] 0 0 w.old w.new }
+{
+    pool.draw(w, own);
+    pool.share(w, root);
+    pool.fill(w, own, root);
+    pool.fill(w, other, root);
+}

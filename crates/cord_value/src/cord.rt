@@ -1,0 +1,152 @@
+//! Cords, their bytes and their trees.
+ghost use Rattle.std.specs.Prelude.{◌≡◌, ◌↔◌, ◌+◌, ◌<◌, ◌≤◌, [], ◌∷◌, length, None, IsSome, IsTrue, IfOk, IfErr, IfSome};
+ghost use Rattle.node_edges.specs.Trees.{shape_of};
+ghost use Rattle.flat_nodes.specs.Flats.{flat_shape};
+ghost use Rattle.cord_value.specs.Workers.{Keeps, IsBalanced};
+ghost use Rattle.cord_value.specs.Refusals.{IsMakeRefused, refusal_of};
+ghost use Rattle.cord_value.specs.Views.{IsTreeOf, numbers_of, passes_of};
+
+use crate::inline::{MOST_INLINE, inline_of};
+use crate::refusals::CordError;
+use arrayvec::ArrayVec;
+use cord_port::Releaser;
+use flat_nodes::{NodeError, new_flat};
+use node_edges::texts_are_as_long_as_edges_say;
+use node_pool::{Edge, Naming, Pass, PassLimit, Pool, Worker};
+use std::alloc::Global;
+use std::marker::Model;
+
+/// The most bytes of a cord until trees grow, which is the highest capacity of a flat.
+const MOST_IN_A_FLAT: usize = 4083;
+
+/// A list of bytes that is cheap to copy. At most 15 bytes stand inline, and more in a tree, which a pass keeps between calls.
+/// Contracts see its bytes, and its tree where it has one.
+#[derive(Drop)]
+pub struct Cord<P: Naming> {
+    pub(crate) form: Form<P>,
+}
+
+/// The two kinds of cords.
+#[derive(Drop)]
+pub(crate) enum Form<P: Naming> {
+    Inline(ArrayVec<u8, 15>),
+    Tree { pass: Pass<P>, root: Edge },
+}
+
+impl<P: Naming> Model for Cord<P> {
+    ghost use Rattle.cord_value.specs.Views.{CordView, coded_cord};
+
+    ghost Value = { CordView };
+
+    ghost coded = { coded_cord };
+
+    ghost use Rattle.cord_value.specs.Forms.{view_of, IsForm};
+
+    ghost view = { λ c. view_of c.form };
+
+    ghost invariant = { λ c. IsForm c.form };
+}
+
+impl<P: Naming> Cord<P> {
+    /// The empty cord.
+    pub fn new() -> Cord<P>
+        ensures bytes { result.bytes ≡ [] }
+        ensures tree { result.tree ≡ None }
+    {
+        Cord {
+            form: Form::Inline(ArrayVec::new()),
+        }
+    }
+
+    /// A cord of these bytes. More than 15 take a pass first, and then one number for a flat.
+    pub fn from_bytes<B: Releaser>(
+        alloc: Global,
+        pool: &Pool<P, B>,
+        w: &mut Worker<P>,
+        bytes: &[u8],
+    ) -> Result<Cord<P>, CordError>
+        requires room { length w.old.holds ≤ 96 }
+        ensures bytes { IfOk result (λ c. c.bytes ≡ bytes.now) }
+        ensures tree { IfOk result (λ c. IsSome c.tree ↔ (15 < length bytes.now)) }
+        ensures formed { IfOk result (λ c. IsTreeOf c.bytes c.tree) }
+        ensures shape { IfOk result (λ c. IfSome c.tree (λ e. shape_of e ≡ flat_shape (length bytes.now))) }
+        ensures worker { IfOk result (λ c. Keeps (numbers_of c.tree) (passes_of c.tree) 0 w.old w.new) }
+        ensures short { IfOk result (λ _. length bytes.now ≤ 4083) }
+        ensures refused { IfErr result (λ x. IsMakeRefused P.size P.limit (length bytes.now) x w.old w.new) }
+        ensures balanced { IfErr result (λ _. IsBalanced w.old w.new) }
+    {
+        if bytes.len() <= MOST_INLINE {
+            return Ok(Cord {
+                form: Form::Inline(inline_of(bytes)),
+            });
+        }
+        if bytes.len() > MOST_IN_A_FLAT {
+            let asked = bytes.len() as u64;
+            return Err(CordError::LengthLimit { asked });
+        }
+        let mut pass = match pool.pass(w) {
+            Ok(pass) => pass,
+            Err(PassLimit { found }) => return Err(CordError::PassLimit { found }),
+        };
+        match new_flat(alloc, pool, w, bytes) {
+            Ok(root) => {
+                pool.fill(w, &mut pass, &root);
+                Ok(Cord {
+                    form: Form::Tree { pass, root },
+                })
+            }
+            Err(error) => {
+                pool.end(w, pass);
+                Err(refusal_of(error))
+            }
+        }
+    }
+
+    /// How many bytes there are.
+    pub fn len(&self) -> u64
+        ensures { result ≡ length self.now.bytes }
+    {
+        texts_are_as_long_as_edges_say();
+        match &self.form {
+            Form::Inline(bytes) => bytes.len() as u64,
+            Form::Tree { root, .. } => root.length(),
+        }
+    }
+
+    /// Whether the bytes stand in a tree, which is so exactly where there are more than 15.
+    pub fn is_tree(&self) -> bool
+        ensures tree { IsTrue result ↔ IsSome self.now.tree }
+        ensures long { IsTrue result ↔ (15 < length self.now.bytes) }
+        ensures formed { IsTreeOf self.now.bytes self.now.tree }
+    {
+        matches!(&self.form, Form::Tree { .. })
+    }
+
+    /// Leaves the tree and ends its pass.
+    pub fn release<B: Releaser>(self, pool: &Pool<P, B>, w: &mut Worker<P>)
+        requires room { length w.old.holds ≤ 96 }
+        ensures worker { Keeps [] 0 (passes_of self.tree) w.old w.new }
+    {
+        let Cord { form } = self;
+        match form {
+            Form::Inline(_) => {}
+            Form::Tree { pass, root } => {
+                let mut own = pass;
+                pool.draw(w, &mut own);
+                pool.leave(w, &root);
+                pool.end(w, own);
+            }
+        }
+    }
+}
+
+// The refusal of a new flat, which is never for its height.
+fn refusal_of(error: NodeError) -> CordError
+    ensures { result ≡ refusal_of error }
+{
+    match error {
+        NodeError::NoNumber { seen } => CordError::NoNumber { seen },
+        NodeError::HeightLimit { height } => CordError::HeightLimit { height },
+        NodeError::Memory => CordError::Memory,
+    }
+}

@@ -1,0 +1,234 @@
+//! Cords of each size that tells something, their copies, and what is left of a pool after them.
+ghost use Rattle.std.specs.Prelude.{◌≡◌, ◌<◌, ◌≤◌, length, IfOk, IfErr};
+ghost use Rattle.pool_rule.specs.Trades.{SameHolds};
+ghost use Rattle.node_pool.specs.Opened.{opened_table, opened_numbers, opened_passes, opened_workers, opened_boxes};
+
+use crate::cord::{Cord, Form};
+use crate::refusals::{CopyRefused, CordError};
+use cord_port::LogReleaser;
+use node_pool::{Closed, Naming, Opened, PassLimit, Pool, Worker};
+use std::alloc::Global;
+use std::marker::Brand;
+
+type Boxes = LogReleaser;
+
+/// The number of a cord's tree.
+fn number_of<P: Naming>(cord: &Cord<P>) -> Option<u32> {
+    match &cord.form {
+        Form::Inline(_) => None,
+        Form::Tree { root, .. } => Some(root.number()),
+    }
+}
+
+/// A cord's length, and whether it is a tree. It is released then.
+fn made_and_gone<P: Naming>(
+    alloc: Global,
+    pool: &Pool<P, Boxes>,
+    w: &mut Worker<P>,
+    size: usize,
+) -> Result<(u64, bool), CordError>
+    requires room { length w.old.holds ≤ 96 }
+    ensures same { SameHolds w.old.holds w.new.holds }
+{
+    let Ok(bytes) = vec![in alloc; 120u8; size] else {
+        return Err(CordError::Memory);
+    };
+    let cord = match Cord::from_bytes(alloc, pool, w, bytes.as_slice()) {
+        Ok(cord) => cord,
+        Err(error) => return Err(error),
+    };
+    let seen = (cord.len(), cord.is_tree());
+    cord.release(pool, w);
+    Ok(seen)
+}
+
+fn seen_of<P: Naming>(
+    alloc: Global,
+    opened: Opened<Boxes>,
+    size: usize,
+) -> Option<(Result<(u64, bool), CordError>, u32)>
+    requires table { opened_table opened ≡ P.table }
+    requires numbers { opened_numbers opened ≡ P.size }
+    requires passes { opened_passes opened ≡ P.limit }
+    requires boxes { opened_boxes opened ≡ P.boxes }
+    requires workers { (opened_workers opened ≡ P.workers) × (P.workers ≡ 1) }
+{
+    let Ok((pool, mut workers)) = opened.named::<P>(alloc) else {
+        return None;
+    };
+    let seen = made_and_gone(alloc, &pool, &mut workers[0], size);
+    let Closed {
+        in_use,
+        releasers: _,
+    } = pool.close(workers);
+    Some((seen, in_use))
+}
+
+#[test]
+fn more_than_15_bytes_stand_in_a_tree_and_more_than_4083_are_refused(rt: HostRuntime) {
+    let alloc = rt.alloc();
+    let refused = CordError::LengthLimit { asked: 4084 };
+    for (size, seen) in [
+        (0usize, Ok((0u64, false))),
+        (15, Ok((15, false))),
+        (16, Ok((16, true))),
+        (4083, Ok((4083, true))),
+        (4084, Err(refused)),
+    ] {
+        let Ok(opened) = Opened::start(alloc, 2, 1, 1, Vec::new(alloc)) else {
+            assert!(&rt; false, "memory");
+            return;
+        };
+        let answer = seen_of::<Brand>(alloc, opened, size);
+        assert_eq!(rt; answer, Some((seen, 0)), "at {size}");
+    }
+}
+
+/// The numbers of a cord and of its copy, after the cord went.
+fn numbers<P: Naming>(
+    alloc: Global,
+    pool: &Pool<P, Boxes>,
+    w: &mut Worker<P>,
+    bytes: &[u8],
+) -> Result<(Option<u32>, Option<u32>, u64), CordError>
+    requires room { length w.old.holds ≤ 96 }
+    ensures same { SameHolds w.old.holds w.new.holds }
+{
+    let mut cord = match Cord::from_bytes(alloc, pool, w, bytes) {
+        Ok(cord) => cord,
+        Err(error) => return Err(error),
+    };
+    let copy = match cord.copy(pool, w) {
+        Ok(copy) => copy,
+        Err(error) => {
+            cord.release(pool, w);
+            return Err(error);
+        }
+    };
+    let first = number_of(&cord);
+    cord.release(pool, w);
+    let second = number_of(&copy);
+    let length = copy.len();
+    copy.release(pool, w);
+    Ok((first, second, length))
+}
+
+/// Whether a pass for a copy came back, and how long the copy is.
+fn copied_into<P: Naming>(
+    alloc: Global,
+    pool: &Pool<P, Boxes>,
+    w: &mut Worker<P>,
+    bytes: &[u8],
+) -> Result<(bool, u64), CordError>
+    requires room { length w.old.holds ≤ 96 }
+    ensures same { SameHolds w.old.holds w.new.holds }
+{
+    let mut cord = match Cord::from_bytes(alloc, pool, w, bytes) {
+        Ok(cord) => cord,
+        Err(error) => return Err(error),
+    };
+    let pass = match pool.pass(w) {
+        Ok(pass) => pass,
+        Err(PassLimit { found }) => {
+            cord.release(pool, w);
+            return Err(CordError::PassLimit { found });
+        }
+    };
+    match cord.copy_into(pool, w, pass) {
+        Ok((copy, back)) => {
+            let seen = (back.is_some(), copy.len());
+            if let Some(pass) = back {
+                pool.end(w, pass);
+            }
+            copy.release(pool, w);
+            cord.release(pool, w);
+            Ok(seen)
+        }
+        Err(CopyRefused { pass }) => {
+            pool.end(w, pass);
+            cord.release(pool, w);
+            Err(CordError::Memory)
+        }
+    }
+}
+
+const LONG: &[u8] = b"more than fifteen bytes";
+
+/// What copies of a tree and of an inline cord are, in a pool for so many live passes.
+#[derive(Debug, PartialEq, Eq, Drop)]
+struct Copies {
+    same_number: Result<bool, CordError>,
+    inline: Result<(Option<u32>, Option<u32>, u64), CordError>,
+    tree_into: Result<(bool, u64), CordError>,
+    inline_into: Result<(bool, u64), CordError>,
+    in_use: u32,
+}
+
+fn all_copied<P: Naming>(alloc: Global, opened: Opened<Boxes>) -> Option<Copies>
+    requires table { opened_table opened ≡ P.table }
+    requires numbers { opened_numbers opened ≡ P.size }
+    requires passes { opened_passes opened ≡ P.limit }
+    requires boxes { opened_boxes opened ≡ P.boxes }
+    requires workers { (opened_workers opened ≡ P.workers) × (P.workers ≡ 4) }
+{
+    let Ok((pool, mut workers)) = opened.named::<P>(alloc) else {
+        return None;
+    };
+    let same_number = match numbers(alloc, &pool, &mut workers[0], LONG) {
+        Ok((first, second, length)) => {
+            Ok(first.is_some() && first == second && length == LONG.len() as u64)
+        }
+        Err(error) => Err(error),
+    };
+    let inline = numbers(alloc, &pool, &mut workers[1], b"few");
+    let tree_into = copied_into(alloc, &pool, &mut workers[2], LONG);
+    let inline_into = copied_into(alloc, &pool, &mut workers[3], b"few");
+    let Closed {
+        in_use,
+        releasers: _,
+    } = pool.close(workers);
+    Some(Copies {
+        same_number,
+        inline,
+        tree_into,
+        inline_into,
+        in_use,
+    })
+}
+
+#[test]
+fn a_copy_has_the_same_number_and_all_are_given_back(rt: HostRuntime) {
+    let alloc = rt.alloc();
+    let Ok(opened) = Opened::start(alloc, 1, 2, 4, Vec::new(alloc)) else {
+        assert!(&rt; false, "memory");
+        return;
+    };
+    let seen = all_copied::<Brand>(alloc, opened);
+    let wanted = Copies {
+        same_number: Ok(true),
+        inline: Ok((None, None, 3)),
+        tree_into: Ok((false, 23)),
+        inline_into: Ok((true, 3)),
+        in_use: 0,
+    };
+    assert_eq!(rt; seen, Some(wanted));
+}
+
+#[test]
+fn a_copy_beyond_the_limit_on_passes_is_refused(rt: HostRuntime) {
+    let alloc = rt.alloc();
+    let Ok(opened) = Opened::start(alloc, 1, 1, 4, Vec::new(alloc)) else {
+        assert!(&rt; false, "memory");
+        return;
+    };
+    let seen = all_copied::<Brand>(alloc, opened);
+    let refused = CordError::PassLimit { found: 1 };
+    let wanted = Copies {
+        same_number: Err(refused),
+        inline: Ok((None, None, 3)),
+        tree_into: Err(refused),
+        inline_into: Ok((true, 3)),
+        in_use: 0,
+    };
+    assert_eq!(rt; seen, Some(wanted));
+}

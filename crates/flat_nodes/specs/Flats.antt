@@ -1,0 +1,44 @@
+-- What a new flat is, and what its making leaves a worker with.
+use Rattle.std.specs.Prelude.{ℕ, ◌≡◌, ◌-◌, List, [], ◌∷◌, ◌++◌, length}
+use Rattle.node_forest.specs.declared.kind.Kind.{Kind}
+use Rattle.node_forest.specs.declared.kind.Kind.TheVariants.{Flat}
+use Rattle.node_forest.specs.Forest.{empty}
+use Rattle.node_forest.specs.Label.{Node, number}
+use Rattle.node_edges.specs.Body.{flat_node}
+use Rattle.node_edges.specs.Shape.{Shape}
+use Rattle.pool_rule.specs.Views.{View}
+use Rattle.node_pool.specs.Answers.{noting_all, IsFull}
+use Rattle.flat_nodes.specs.declared.refusals.NodeError.{NodeError}
+use Rattle.flat_nodes.specs.declared.refusals.NodeError.TheVariants.{NoNumber, HeightLimit, Memory}
+use Rattle.flat_nodes.specs.Capacity.{capacity_for}
+
+-- the node of a new flat with these bytes
+abbrev pub new_flat_node : ℕ → List ℕ → Node
+new_flat_node n bytes = flat_node n bytes (capacity_for (length bytes) - length bytes)
+
+-- the shape of a new flat of so many bytes
+abbrev pub flat_shape : ℕ → Shape
+flat_shape n = (record { kind = Flat; length = n; more = capacity_for n - n }, empty)
+
+-- a flat's room, 0 for what is no flat
+abbrev pub room_by : Kind → ℕ → ℕ
+room_by Flat room = room
+room_by _ room = 0
+
+abbrev pub room_in : Node → ℕ
+room_in e = room_by e.0.kind e.0.more
+
+-- one number more was taken, and its hold is the last
+abbrev pub added : Node → View → View
+added e v = record v { holds = v.holds ++ e ∷ []; taken = v.taken ++ number e ∷ [] }
+
+-- the node was added, after steps that found other numbers not 0; all else is as before
+pub record IsAdded (v w : View) (e : Node) : Type 0 where
+  pub found : List ℕ
+  pub view : w ≡ added e (noting_all found v)
+
+-- each number was found not 0 in this call, or memory was wanting and no step was made
+abbrev pub IsFlatRefused : ℕ → NodeError → View → View → Type 0
+IsFlatRefused size (NoNumber seen) v w = (seen ≡ size) × IsFull size v w
+IsFlatRefused size (HeightLimit height) v w = ⊥
+IsFlatRefused size Memory v w = w ≡ v

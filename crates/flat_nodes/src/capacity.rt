@@ -1,0 +1,27 @@
+//! How large a flat is made (`cord_rep_flat.h`).
+ghost use Rattle.std.specs.Prelude.{◌≡◌, ℕ, ◌≤◌};
+ghost use Rattle.flat_nodes.specs.Capacity.{capacity_for, IsLeast};
+
+/// The capacity of a flat that is made for so many bytes.
+pub(crate) fn capacity_for(length: usize) -> usize
+    requires { length ≤ 4083 }
+    ensures capacity { result ≡ capacity_for length }
+    ensures wide { length ≤ result }
+    ensures most { result ≤ 4083 }
+{
+    match length {
+        0..=19 => 19,
+        20..=51 => 51,
+        52..=115 => 115,
+        116..=243 => 243,
+        244..=499 => 499,
+        500..=1011 => 1011,
+        1012..=2035 => 2035,
+        _ => 4083,
+    }
+}
+
+/// The capacity of a new flat is the least one that holds its bytes.
+pub fn capacities_are_least()
+    ensures { (n : ℕ) → n ≤ 4083 → IsLeast n (capacity_for n) }
+{}

@@ -1,0 +1,13 @@
+//! Flats: nodes that have bytes of their own, and room for more of them.
+#![tactic(auto)]
+
+mod capacity;
+mod flat;
+mod refusals;
+#[cfg(test)]
+mod tests;
+
+pub use capacity::capacities_are_least;
+pub use flat::{new_flat, room_of};
+pub use node_pool::Edge;
+pub use refusals::NodeError;
