@@ -67,7 +67,7 @@ sum-none f (x ∷ xs) h = omega (arith, h 0 x refl, sum-none f xs (λ id v at. h
 
 -- the others made no counted and no uncounted step
 module _ {S : Type 0} (p : Terms S) (s : State S View) (id : ℕ) (v : View) (r : Kept p s) (at : get_elem? s.views id ≡ some v) (all : v.spare ≡ p.workers) where
-  bare_else : (j : ℕ) (w : View) → get_elem? s.views j ≡ some w → j ≢ id → IsBare w
+  pub bare_else : (j : ℕ) (w : View) → get_elem? s.views j ≡ some w → j ≢ id → IsBare w
   bare_else j w there ne = r.bare j w there (omega (arith, spare_within s.views id j v w at there ne, r.workers, all))
 
   made_all : sum_by made_by s.views ≡ made_by v

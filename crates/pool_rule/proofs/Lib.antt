@@ -7,6 +7,7 @@ pub mod Allowed
 pub mod Tokens
 pub mod Hands
 pub mod Ends
+pub mod Settled
 pub mod Passes
 pub mod Tallies
 pub mod Alone

@@ -8,3 +8,4 @@ pub mod Steps
 pub mod Trades
 pub mod Marks
 pub mod EdgeMarks
+pub mod Ends

@@ -1,5 +1,5 @@
 //! What the table's rule promises, for slots of any type.
-ghost use Rattle.std.specs.Prelude.{◌≡◌, ℕ, ◌+◌, ◌-◌, ◌*◌, ◌%◌, ◌^◌, ◌<◌, ◌≤◌, ◌==◌, List, [], ◌∷◌, ◌++◌, length, slice_index};
+ghost use Rattle.std.specs.Prelude.{◌≡◌, ◌≢◌, ℕ, ◌+◌, ◌-◌, ◌*◌, ◌%◌, ◌^◌, ◌<◌, ◌≤◌, ◌==◌, List, [], ◌∷◌, ◌++◌, length, slice_index};
 ghost use mathlib.Core.Option.{some, none};
 ghost use lib.ListN.{get_elem?};
 ghost use prog.Atomic.{either};
@@ -15,6 +15,7 @@ ghost use Rattle.pool_rule.specs.Notes.{Use};
 ghost use Rattle.pool_rule.specs.Rules.{Ruled};
 ghost use Rattle.pool_rule.specs.Pools.{Terms, IsFresh, IsCalled, Member, slot_times, IsBare, IsReached, IsKnown, made_by, ended_by, Kept};
 ghost use Rattle.pool_rule.specs.Plays.{AreOneEach, Told, taken, shared, left, homed, looked};
+ghost use Rattle.pool_rule.specs.Ends.{IsSettled};
 ghost use Rattle.pool_rule.specs.Steps.{AreCoreSteps};
 ghost use Rattle.pool_rule.specs.Trades.{Trades, HasHolds, Stands};
 
@@ -64,6 +65,18 @@ pub fn idle_pools_are_empty<S>()
 /// What a token that is all workers of a pool knows of the steps of all of them.
 pub fn whole_tokens_know_all_steps<S>()
     ensures { (p : Terms S) (s : State S View) (id : ℕ) (v : View) → Kept p s → get_elem? s.views id ≡ some v → v.spare ≡ p.workers → IsKnown v }
+{}
+
+/// Each slot is at home where one token is all workers of a pool and has no slot out: a box that no external used wasn't called, and
+/// each other box was called at most once since it was handed in, for its external. Where no number is in use it was.
+pub fn whole_tokens_know_all_boxes<S>()
+    ensures boxes { (p : Terms S) (s : State S View) (id : ℕ) (v : View) → Kept p s → get_elem? s.views id ≡ some v → v.spare ≡ p.workers → v.away ≡ [] → (j : ℕ) → j < length s.homes → (y : S) × (get_elem? s.homes j ≡ some (some y)) × IsSettled p s.words v j y }
+    ensures places { (p : Terms S) (s : State S View) (id : ℕ) (v : View) → Kept p s → get_elem? s.views id ≡ some v → v.spare ≡ p.workers → v.away ≡ [] → (u : Use) → Member u v.used → u.slot < length s.homes }
+{}
+
+/// A number that stands in a token's trees is in use.
+pub fn held_numbers_are_in_use<S>()
+    ensures { (p : Terms S) (s : State S View) (id : ℕ) (v : View) → Kept p s → get_elem? s.views id ≡ some v → (x : Node) → Occurs x v.holds → slice_index s.words (number x) ≢ 0 }
 {}
 
 /// What those who use the pool know of their holds by weights is what the steps ask for, and what the steps tell is a trade of
