@@ -17,6 +17,7 @@ pub mod Calls
 pub mod Trades
 pub mod Door
 pub mod Giving
+pub mod CoreSteps
 pub mod MarkSteps
 pub mod EdgeMarks
 pub mod EdgeSteps

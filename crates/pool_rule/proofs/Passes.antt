@@ -14,7 +14,7 @@ use Rattle.pool_rule.specs.Views.{View, blank, counting, counting_below, countin
 use Rattle.pool_rule.specs.Rules.{holds_of, world, passes, overs, Among, IsTaken, IsSane, Ruled}
 use Rattle.pool_rule.proofs.Worlds.{rooms_set, passes_set, overs_set, spares_set, sane_set, sane_at}
 use Rattle.pool_rule.proofs.Taken.{taken_set, full_set, taken_longer, full_longer}
-use Rattle.pool_rule.proofs.Steps.{core_steps, live_low}
+use Rattle.pool_rule.proofs.Steps.{counted_does, uncounted_does, live_low}
 use Rattle.pool_rule.proofs.Allowed.{Moved, told}
 use Rattle.pool_rule.proofs.Tokens.{rooms-append, passes-append, overs-append, spares-append, sane_append, split_does}
 
@@ -67,7 +67,7 @@ module _ {S : Type 0} (k : ℕ) where
           let few = live_low k s id me.0 r at in
           let sane : IsSane k w = record { size = mine.size; roomy = omega arith; narrow = mine.narrow; limited = mine.limited; fewer = mine.fewer } in
           let ruled : Ruled k (stepped s k (n + 1) id me.1 w keeps) =
-          live_ruled k s id me.0 r at (counted id) (n + 1) w me.1 ((core_steps k s id me.0 r at me.1).counted w refl (omega arith)) sane refl refl (omega arith) (omega arith) refl (λ o q. omega arith) in
+          live_ruled k s id me.0 r at (counted id) (n + 1) w me.1 (counted_does k s id me.0 r at w me.1 refl (omega arith)) sane refl refl (omega arith) (omega arith) refl (λ o q. omega arith) in
           let is : w ≡ counting n me.0 = ap (λ (b : Bool). if b then counting_below n me.0 else counting_over n me.0) (sym e) in
           (w, keeps, tt, subst (λ (z : ℕ). Ruled k (stepped s k z id me.1 w keeps)) (sym up) ruled, subst (λ (z : View). Moved z me (w, me.1)) is (told k s id me (w, me.1) w r at refl refl sane))
       go false e =
@@ -77,7 +77,7 @@ module _ {S : Type 0} (k : ℕ) where
           let few = live_low k s id me.0 r at in
           let sane : IsSane k w = record { size = mine.size; roomy = omega arith; narrow = mine.narrow; limited = mine.limited; fewer = omega arith } in
           let ruled : Ruled k (stepped s k (n + 1) id me.1 w keeps) =
-          live_ruled k s id me.0 r at (counted id) (n + 1) w me.1 ((core_steps k s id me.0 r at me.1).counted w refl (omega arith)) sane refl refl (omega arith) (omega arith) refl (λ o q. omega arith) in
+          live_ruled k s id me.0 r at (counted id) (n + 1) w me.1 (counted_does k s id me.0 r at w me.1 refl (omega arith)) sane refl refl (omega arith) (omega arith) refl (λ o q. omega arith) in
           let is : w ≡ counting n me.0 = ap (λ (b : Bool). if b then counting_below n me.0 else counting_over n me.0) (sym e) in
           (w, keeps, tt, subst (λ (z : ℕ). Ruled k (stepped s k z id me.1 w keeps)) (sym up) ruled, subst (λ (z : View). Moved z me (w, me.1)) is (told k s id me (w, me.1) w r at refl refl sane))
 
@@ -94,7 +94,7 @@ module _ {S : Type 0} (k : ℕ) where
       let w : View = ending me.0 in
       let sane : IsSane k w = record { size = mine.size; roomy = omega arith; narrow = mine.narrow; limited = mine.limited; fewer = mine.fewer } in
       let ruled : Ruled k (stepped s k (n - 1) id me.1 w keeps) =
-      live_ruled k s id me.0 r at (uncounted id) (n - 1) w me.1 ((core_steps k s id me.0 r at me.1).uncounted w refl (λ e. absurd (omega arith))) sane refl refl (omega arith) (omega arith) refl (λ o q. omega arith) in
+      live_ruled k s id me.0 r at (uncounted id) (n - 1) w me.1 (uncounted_does k s id me.0 r at w me.1 refl (λ e. absurd (omega arith))) sane refl refl (omega arith) (omega arith) refl (λ o q. omega arith) in
       (w, keeps, tt, subst (λ (z : ℕ). Ruled k (stepped s k z id me.1 w keeps)) (sym down) ruled, told k s id me (w, me.1) w r at refl refl sane)
 
   -- a pass that found the limit reached is taken back
@@ -111,7 +111,7 @@ module _ {S : Type 0} (k : ℕ) where
       let w : View = undoing me.0 in
       let sane : IsSane k w = record { size = mine.size; roomy = omega arith; narrow = mine.narrow; limited = mine.limited; fewer = omega arith } in
       let ruled : Ruled k (stepped s k (n - 1) id me.1 w keeps) =
-      live_ruled k s id me.0 r at (uncounted id) (n - 1) w me.1 ((core_steps k s id me.0 r at me.1).uncounted w refl (λ e. absurd (omega arith))) sane refl refl (omega arith) (omega arith) refl (λ o q. omega arith) in
+      live_ruled k s id me.0 r at (uncounted id) (n - 1) w me.1 (uncounted_does k s id me.0 r at w me.1 refl (λ e. absurd (omega arith))) sane refl refl (omega arith) (omega arith) refl (λ o q. omega arith) in
       (w, keeps, tt, subst (λ (z : ℕ). Ruled k (stepped s k z id me.1 w keeps)) (sym down) ruled, told k s id me (w, me.1) w r at refl refl sane)
 
 -- an empty pass becomes a token of its own

@@ -10,7 +10,7 @@ use Rattle.node_forest.specs.Members.{In, Occurs}
 use Rattle.node_forest.specs.Counts.{first}
 use Rattle.node_forest.proofs.Members.{root_occurs}
 use Rattle.count_core.specs.Views.{AreHeld, without, without_all, passed_on}
-use Rattle.count_core.specs.Steps.{Step, take, share, leave, look, Does, changed, word_at, holds_at, roots}
+use Rattle.count_core.specs.Steps.{Step, take, share, leave, look, counted, uncounted, Does, changed, word_at, holds_at, roots}
 use Rattle.count_core.specs.Worlds.{IsSound}
 use Rattle.count_core.proofs.Around.{seen_occurs}
 use Rattle.count_core.proofs.Counting.{has_holder}
@@ -19,7 +19,6 @@ use Rattle.pool_rule.specs.Views.{View, taking, sharing, leaving, releasing}
 use Rattle.pool_rule.specs.Rules.{holds_of, world, Among, IsTaken, IsSane, Ruled}
 use Rattle.pool_rule.proofs.Taken.{among_split, taken_set, full_set, used_set}
 use Rattle.pool_rule.proofs.Worlds.{at_lt, held_at, length-rooms, narrow-roots, rooms_set, passes_set, overs_set, spares_set, overs_le, sane_set, world_stepped, word_world, width_world, places_world, word_again, world_live}
-use Rattle.pool_rule.specs.Steps.{AreCoreSteps}
 use Rattle.pool_rule.proofs.Holds.{first_only, holders_le}
 
 -- what a step that counts no pass leaves
@@ -81,7 +80,7 @@ module _ {S : Type 0} (k : ℕ) (s : State S View) (id : ℕ) (v : View) (r : Ru
   place : (n : ℕ) → n < k → n < length (world k s).words
   place n l = let w = width_world k s r.width in omega arith
 
-  is_view : id < length (world k s).views
+  pub is_view : id < length (world k s).views
   is_view = let a = at_lt s.views id v at in let p = places_world k s in omega arith
 
   -- ---- the steps
@@ -189,12 +188,8 @@ module _ {S : Type 0} (k : ℕ) (s : State S View) (id : ℕ) (v : View) (r : Ru
       from : (j : ℕ) → Among j v.full ⊎ Among j (n ∷ []) → Among j v.full ⊎ IsTaken j s.views
       from j h = ⊎_elim (λ a. inl a) (λ b. ⊎_elim (λ e. inr (subst (λ (z : ℕ). IsTaken z s.views) (sym e) (r.used n l some_))) (λ x. absurd x) b) h
 
-  pub core_steps : (c : List (ℕ × S)) → AreCoreSteps k s id v c
-  core_steps c = record {
-    take = λ t l free held. take_does t c l free held;
-    share = λ t small o. share_does t c (get_or s.words (number t) 0 + 1) small o refl;
-    leave = λ t h. leave_does t (releasing (get_or s.words (number t) 0) t v) c (get_or s.words (number t) 0 - 1) refl h refl;
-    counted = λ w same low. ((is_view, low), world_live k s id v w (get_or s.words k 0 + 1) c at r.width same);
-    uncounted = λ w same some_. ((is_view, some_), world_live k s id v w (get_or s.words k 0 - 1) c at r.width same);
-    look = λ t w same o. look_does t w c same o;
-  }
+  pub counted_does : (w : View) (c : List (ℕ × S)) → w.holds ≡ v.holds → get_or s.words k 0 < 2 ^ 32 → Does (counted id) (world k s) true (world k (stepped s k (get_or s.words k 0 + 1) id c w keeps))
+  counted_does w c same low = ((is_view, low), world_live k s id v w (get_or s.words k 0 + 1) c at r.width same)
+
+  pub uncounted_does : (w : View) (c : List (ℕ × S)) → w.holds ≡ v.holds → get_or s.words k 0 ≢ 0 → Does (uncounted id) (world k s) true (world k (stepped s k (get_or s.words k 0 - 1) id c w keeps))
+  uncounted_does w c same some_ = ((is_view, some_), world_live k s id v w (get_or s.words k 0 - 1) c at r.width same)

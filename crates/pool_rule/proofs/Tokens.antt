@@ -178,6 +178,23 @@ pub record Joined (v w b : View) : Type 0 where
   pub over : b.over ≡ v.over + w.over
   pub spare : b.spare ≡ v.spare + w.spare
 
+pub join_does : {S : Type 0} (k id other : ℕ) (v w b : View) (s : State S View) → b.holds ≡ v.holds ++ w.holds → get_elem? s.views id ≡ some v → get_elem? s.views other ≡ some w → other ≢ id
+    → Does (merge id other) (world k s) true (world k record { words = s.words; homes = s.homes; views = set (set s.views id b) other (spent w) })
+join_does k id other v w b s same at there apart =
+    let ne : id ≢ other = (λ e. apart (sym e)) in
+    let p = places_world k s in
+    let i = at_lt s.views id v at in
+    let j = at_lt s.views other w there in
+    let hv = held_at s.views id v at in
+    let hw = held_at s.views other w there in
+    let views : map holds_of (set (set s.views id b) other (spent w)) ≡ set (set (map holds_of s.views) other []) id (holds_at (world k s) id ++ holds_at (world k s) other) =
+    map-set holds_of (set s.views id b) other (spent w)
+    ∙ ap (λ (l : List (List Node)). set l other []) (map-set holds_of s.views id b)
+    ∙ set_swap (map holds_of s.views) id other b.holds [] ne
+    ∙ ap (set (set (map holds_of s.views) other []) id) same
+    ∙ (λ q. set (set (map holds_of s.views) other []) id (sym hv q ++ sym hw q)) in
+    (record { view = omega arith; second = omega arith; different = ne }, ap (with_views (world k s)) views)
+
 pub joins_allowed : {S : Type 0} (k id other : ℕ) (v w b : View) → Joined v w b → Joins {S = S} (Ruled k) id v other w b (spent w)
 joins_allowed k id other v w b m s r at apart at' =
     let jr = m.room in
@@ -208,20 +225,10 @@ joins_allowed k id other v w b m s r at apart at' =
     let fv = mine.fewer in
     let fw = theirs.fewer in
     let ne : id ≢ other = (λ e. apart (sym e)) in
-    let p = places_world k s in
-    let i = at_lt s.views id v at in
-    let j = at_lt s.views other w there in
-    let hv = held_at s.views id v at in
-    let hw = held_at s.views other w there in
-    let views : map holds_of (set (set s.views id b) other z) ≡ set (set (map holds_of s.views) other []) id (holds_at (world k s) id ++ holds_at (world k s) other) =
-    map-set holds_of (set s.views id b) other z
-    ∙ ap (λ (l : List (List Node)). set l other []) (map-set holds_of s.views id b)
-    ∙ set_swap (map holds_of s.views) id other b.holds [] ne
-    ∙ ap (set (set (map holds_of s.views) other []) id) m.holds
-    ∙ (λ q. set (set (map holds_of s.views) other []) id (sym hv q ++ sym hw q)) in
+    let does = join_does k id other v w b s m.holds at there apart in
     record {
       width = r.width;
-      sound = subst IsSound (ap (with_views (world k s)) (sym views)) (step_sound (merge id other) (world k s) r.sound (record { view = omega arith; second = omega arith; different = ne }));
+      sound = subst IsSound (sym does.1) (step_sound (merge id other) (world k s) r.sound does.0);
       sane = sane_set k (set s.views id b) other z
           (sane_set k s.views id b r.sane (record { size = m.size ∙ mine.size; roomy = omega arith; narrow = subst Narrow (sym m.holds) (narrow_both v.holds w.holds mine.narrow theirs.narrow); limited = omega (arith, jl, mine.limited); fewer = omega arith }))
           (record { size = theirs.size; roomy = omega arith; narrow = λ t o. absurd o; limited = theirs.limited; fewer = omega arith });

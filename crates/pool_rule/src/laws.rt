@@ -24,7 +24,8 @@ pub fn pools_start_ruled<S>()
     ensures { (p : Terms S) (limit : ℕ) (slots : List ℕ) (xs : List S) → limit ≤ 2 ^ 18 → 0 < p.workers → p.workers ≤ 64 → ((j : ℕ) → slot_times j slots ≤ 1) → ((j : ℕ) → Member j slots → j < length xs) → ((j : ℕ) (y : S) → get_elem? xs j ≡ some y → IsFresh p j y) → Kept p (opening (zeroes (p.numbers + 1)) xs (first_view (2 ^ 24) p.numbers limit p.workers slots)) }
 {}
 
-/// On the world of any table under the rule each step of a token is the count rule's step of the same name.
+/// On the world of any table under the rule each step of a token is the count rule's step of the same name, dividing it a split, and
+/// joining another to it a merge.
 pub fn steps_are_the_count_rules<S>()
     ensures { (k : ℕ) (s : State S View) (id : ℕ) (v : View) (c : List (ℕ × S)) → Ruled k s → get_elem? s.views id ≡ some v → AreCoreSteps k s id v c }
 {}

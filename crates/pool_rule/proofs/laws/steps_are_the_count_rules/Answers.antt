@@ -1,5 +1,5 @@
 -- The facts of `steps_are_the_count_rules` that the check leaves to be shown.
-use Rattle.pool_rule.proofs.Steps.{core_steps}
+use Rattle.pool_rule.proofs.CoreSteps.{core_steps}
 use Rattle.pool_rule.proofs.laws.steps_are_the_count_rules.Goals as goal
 
 pub returns : goal.returns
