@@ -1,13 +1,13 @@
 -- The box of an external whose last hold went.
-use Rattle.std.proofs.Common.{◌≡◌, ◌≢◌, ◌⊎◌, inl, inr, ⊎_elim, ℕ, ◌+◌, ◌<◌, Bool, true, false, eqb, eq-eqb, ne_eqb, List, [], ◌∷◌, length, refl, sym, ap, subst, ◌∙◌, arith}
-use Rattle.std.specs.Prelude.{if◌then◌else◌, Option, Some, None, slice_index_or}
+use Rattle.std.proofs.Common.{◌≡◌, ◌≢◌, ◌⊎◌, inl, inr, ℕ, Bool, eqb, eq-eqb, ne_eqb, List, [], ◌∷◌, length, sym, ap, subst, ◌∙◌}
+use Rattle.std.specs.Prelude.{if◌then◌else◌, Option, Some, None}
 use Rattle.atomic_table.specs.Table.{Me}
 use Rattle.node_forest.specs.declared.kind.Kind.{Kind}
 use Rattle.node_forest.specs.declared.kind.Kind.TheVariants.{External}
 use Rattle.node_forest.specs.Label.{Node}
 use Rattle.pool_rule.specs.Notes.{use_of, uses_of}
 use Rattle.pool_rule.specs.Plays.{HasLeft}
-use Rattle.pool_rule.specs.Pools.{Terms, Handed, Box}
+use Rattle.pool_rule.specs.Pools.{Handed, Box}
 use Rattle.pool_rule.specs.Views.{View, leaving, releasing, homing}
 use Rattle.pool_rule.proofs.Calls.{uses_plain, both_empty}
 use Rattle.node_pool.specs.Boxes.{box_of, pool_terms, IsCarried}

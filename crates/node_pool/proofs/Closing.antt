@@ -1,20 +1,22 @@
 -- The words of a pool whose one token holds nothing.
-use Rattle.std.proofs.Common.{◌≡◌, ◌⊎◌, inl, inr, ⊎_elim, ℕ, zero, suc, ◌+◌, ◌<◌, List, [], ◌∷◌, ◌++◌, length, map, sum_by, get_or, refl, sym, ap, subst, ◌∙◌, arith, length-append}
+use Rattle.std.proofs.Common.{◌≡◌, ◌≢◌, ◌⊎◌, inl, inr, ⊎_elim, ℕ, zero, suc, ◌+◌, ◌<◌, List, [], ◌∷◌, ◌++◌, length, map, sum_by, get_or, refl, sym, ap, subst, ◌∙◌, arith, length-append, below_more}
 use Rattle.std.proofs.lemmas.List.Sums.{sum_by-append}
+use mathlib.Core.Logic.{dite}
 use mathlib.Core.Option.{some, some-injective, some-ne-none}
 use lib.ListN.{get_elem?}
+use native.Mathlib.Decide.{ℕ_discrete}
 use Rattle.std.specs.Prelude.{All}
 use Rattle.atomic_table.specs.Table.{Final, Seen, Joins}
 use Rattle.node_forest.specs.Label.{Node}
-use Rattle.pool_rule.specs.Pools.{Terms, Member, IsKnown, Kept, made_by, ended_by}
+use Rattle.pool_rule.specs.Pools.{Terms, Handed, Member, IsKnown, Kept, made_by, ended_by}
 use Rattle.pool_rule.specs.Rules.{Among}
 use Rattle.pool_rule.proofs.Alone.{member_split}
 use Rattle.pool_rule.proofs.Taken.{among_left, among_right, among_split}
-use Rattle.pool_rule.specs.Notes.{Tally}
+use Rattle.pool_rule.specs.Notes.{Tally, Use}
 use Rattle.pool_rule.specs.Views.{View, blank, merged, tally_of}
 use Rattle.pool_rule.proofs.Calls.{merges}
 use Rattle.pool_rule.proofs.Ends.{empties, known}
-use Rattle.node_pool.specs.Closes.{IsAllIdle, IsWhole, AreCountsWithin, AreTakenByWorkers}
+use Rattle.node_pool.specs.Closes.{IsAllIdle, IsWhole, AreCountsWithin, AreTakenByWorkers, IsUsed, AreReturned}
 use Rattle.node_pool.specs.Tokens.{IsWorkerView}
 
 word_is : (ws : List ℕ) (n x : ℕ) → get_elem? ws n ≡ some x → get_or ws n 0 ≡ x
@@ -25,6 +27,14 @@ word_is (w ∷ ws) (suc n) x e = word_is ws n x e
 pub zero_word : {S : Type 0} (p : Terms S) (id : ℕ) (v : View) (ws : List ℕ) (xs : List S) (n x : ℕ) → Final (Seen (Kept p) id v) ws xs → IsWhole p.workers v → n < p.numbers → get_elem? ws n ≡ some x → x ≡ 0
 zero_word p id v ws xs n x f w low at =
     sym (word_is ws n x at) ∙ (ap (λ (z : List ℕ). get_or z n 0) (sym f.2) ∙ empties p f.0 id v f.1.0 f.1.1 w.spare w.passes w.ended w.nothing n low)
+
+-- where so many words so far aren't 0 and that is none, each is 0
+pub still_free : (ws : List ℕ) (n x before after : ℕ) → get_elem? ws n ≡ some x → (x ≡ 0 → after ≡ before) → (x ≢ 0 → after ≡ before + 1) → (before ≡ 0 → (k : ℕ) → k < n → get_or ws k 0 ≡ 0)
+    → after ≡ 0 → (k : ℕ) → k < n + 1 → get_or ws k 0 ≡ 0
+still_free ws n x before after at free used inv none_ =
+    dite (ℕ_discrete x 0)
+    (λ z. let same = free z in below_more (λ (k : ℕ). get_or ws k 0 ≡ 0) n (inv (omega (arith, same, none_))) (word_is ws n x at ∙ z))
+    (λ ne. let more = used ne in absurd (omega (arith, more, none_)))
 
 -- ---- all workers in one
 member_front : {A : Type 0} (x : A) (a b : List A) → Member x a → Member x (a ++ b)
@@ -47,6 +57,10 @@ pub record IsMerged (first : View) (ws : List View) (v : View) : Type 0 where
   pub full_own : (n : ℕ) → Among n first.full → Among n v.full
   pub full : (w : View) → Member w ws → (n : ℕ) → Among n w.full → Among n v.full
   pub taken : (n : ℕ) → Among n v.taken → Among n first.taken ⊎ ((u : View) × Member u ws × Among n u.taken)
+  pub away : v.away ≡ []
+  pub used_own : (u : Use) → Member u first.used → Member u v.used
+  pub used_in : (w : View) → Member w ws → (u : Use) → Member u w.used → Member u v.used
+  pub used_out : (u : Use) → Member u v.used → Member u first.used ⊎ IsUsed ws u
 
 pub merged_first : (numbers most : ℕ) (first v : View) → v ≡ first → IsWorkerView numbers most first → IsMerged first [] v
 merged_first numbers most first v same i = subst (IsMerged first []) (sym same) (record {
@@ -60,6 +74,10 @@ merged_first numbers most first v same i = subst (IsMerged first []) (sym same) 
   full_own = λ n h. h;
   full = λ w h n a. absurd h;
   taken = λ n h. inl h;
+  away = i.away;
+  used_own = λ u h. h;
+  used_in = λ w h u a. absurd h;
+  used_out = λ u h. inl h;
 })
 
 last-sum : (f : View → ℕ) (ws : List View) (w : View) → sum_by f (ws ++ w ∷ []) ≡ sum_by f ws + f w
@@ -88,6 +106,16 @@ merged_more numbers most first ws v w x m same i =
           (λ a. ⊎_elim (λ b. inl b) (λ b. inr (b.0, member_front b.0 ws (x ∷ []) b.1, b.2)) (m.taken n a))
           (λ a. inr (x, member_back x ws (x ∷ []) (inl refl), subst (λ (z : View). Among n z.taken) same a))
           (among_split n v.taken w.taken h);
+      away = m.away;
+      used_own = λ u h. member_front u v.used w.used (m.used_own u h);
+      used_in = λ z h u a. ⊎_elim
+          (λ b. member_front u v.used w.used (m.used_in z b u a))
+          (λ b. ⊎_elim (λ e. member_back u v.used w.used (subst (λ (y : View). Member u y.used) (e ∙ sym same) a)) (λ y. absurd y) b)
+          (member_split z ws (x ∷ []) h);
+      used_out = λ u h. ⊎_elim
+          (λ a. ⊎_elim (λ b. inl b) (λ b. inr (b.0, member_front b.0 ws (x ∷ []) b.1, b.2)) (m.used_out u a))
+          (λ a. inr (x, member_back x ws (x ∷ []) (inl refl), subst (λ (z : View). Member u z.used) same a))
+          (member_split u v.used w.used h);
     }
 
 -- what the whole token knows, its workers know of each other
@@ -128,6 +156,46 @@ nothing_held (w ∷ ws) h =
 none_of : (hs : List Node) → length hs ≡ 0 → hs ≡ []
 none_of [] e = refl
 none_of (x ∷ xs) e = absurd (omega (arith, e))
+
+each_nothing : (ws : List View) → sum_by (λ (w : View). length w.holds) ws ≡ 0 → All (λ (v : View). v.holds ≡ []) ws
+each_nothing [] h k d l = absurd (omega (arith, l))
+each_nothing (w ∷ ws) h zero d l = none_of w.holds (omega (arith, h, sum_by-append (λ (z : View). length z.holds) (w ∷ []) ws))
+each_nothing (w ∷ ws) h (suc k) d l = each_nothing ws (omega (arith, h, sum_by-append (λ (z : View). length z.holds) (w ∷ []) ws)) k d (omega (arith, l))
+
+-- the slots that the whole token's externals used are those of its workers'
+module _ (first : View) (ws all : List View) (v : View) (m : IsMerged first ws v) (is : all ≡ ws ++ first ∷ []) where
+  used_whole : (u : Use) → IsUsed all u → Member u v.used
+  used_whole u h = ⊎_elim
+      (λ b. m.used_in h.0 b u h.2)
+      (λ b. ⊎_elim (λ e. m.used_own u (subst (λ (z : View). Member u z.used) e h.2)) (λ z. absurd z) b)
+      (member_split h.0 ws (first ∷ []) (subst (λ (l : List View). Member h.0 l) is h.1))
+
+  used_part : (u : Use) → Member u v.used → IsUsed all u
+  used_part u h = subst (λ (l : List View). IsUsed l u) (sym is) (⊎_elim
+      (λ b. (first, member_back first ws (first ∷ []) (inl refl), b))
+      (λ b. (b.0, member_front b.0 ws (first ∷ []) b.1, b.2))
+      (m.used_out u h))
+
+  pub merged_boxes : (boxes back : List Handed) (n : ℕ) → AreReturned boxes (v ∷ []) n back → AreReturned boxes all n back
+  merged_boxes boxes back n a =
+      let one : (u : Use) → IsUsed all u → IsUsed (v ∷ []) u = (λ u h. (v, inl refl, used_whole u h)) in
+      record {
+        count = a.count;
+        unused = λ j l none_. a.unused j l (λ u h. none_ u (used_part u (⊎_elim (λ e. subst (λ (z : View). Member u z.used) e h.2) (λ z. absurd z) h.1)));
+        places = λ u h. a.places u (one u h);
+        used = λ u h. a.used u (one u h);
+        called = λ z u h. a.called z u (one u h);
+      }
+
+  -- where the whole token holds nothing, no worker does
+  pub merged_nothing : v.holds ≡ [] → All (λ (w : View). w.holds ≡ []) all
+  merged_nothing none_ = each_nothing all (omega (
+    arith,
+    m.holds,
+    ap (λ (l : List Node). length l) none_,
+    ap (λ (l : List View). sum_by (λ (z : View). length z.holds) l) is,
+    last-sum (λ (z : View). length z.holds) ws first,
+  ))
 
 pub spare_all : (workers : ℕ) (first : View) (ws all : List View) (v : View) → IsMerged first ws v → all ≡ ws ++ first ∷ [] → length all ≡ workers → v.spare ≡ workers
 spare_all workers first ws all v m is count = omega (arith, m.spare, count, ap (λ (l : List View). length l) is, length-append ws (first ∷ []))

@@ -5,6 +5,7 @@ pub mod Finishing
 pub mod Hiring
 pub mod Marking
 pub mod Passing
+pub mod Returning
 pub mod Seats
 pub mod Starting
 pub mod Takes

@@ -1,5 +1,5 @@
 -- The slots and their boxes when a pool begins.
-use Rattle.std.proofs.Common.{◌≡◌, ◌≢◌, ◌⊎◌, inl, inr, ⊎_elim, eq-eqb, ℕ, zero, suc, ◌+◌, ◌<◌, ◌≤◌, eqb, ne_eqb, List, [], ◌∷◌, ◌++◌, length, map, get_or, refl, sym, ap, subst, ◌∙◌, arith}
+use Rattle.std.proofs.Common.{◌≡◌, ◌⊎◌, inl, inr, ⊎_elim, eq-eqb, ℕ, zero, suc, ◌+◌, ◌<◌, ◌≤◌, eqb, ne_eqb, List, [], ◌∷◌, ◌++◌, map, refl, sym, ap, ◌∙◌, arith}
 use Rattle.std.specs.Prelude.{Option, Some, None, slice_index_or}
 use mathlib.Core.Logic.{dite}
 use mathlib.Core.Option.{some, some-injective, some-ne-none}
@@ -7,7 +7,7 @@ use native.Mathlib.Decide.{ℕ_discrete}
 use lib.ListN.{get_elem?}
 use Rattle.node_forest.specs.Counts.{one_if}
 use Rattle.pool_rule.specs.Pools.{Handed, Box, Member, slot_times}
-use Rattle.node_pool.specs.Boxes.{handed_of, fresh_of, box_of, below}
+use Rattle.node_pool.specs.Boxes.{handed_of, fresh_of, below}
 
 times_last : (j : ℕ) (is : List ℕ) (i : ℕ) → slot_times j (is ++ i ∷ []) ≡ slot_times j is + one_if (eqb j i)
 times_last j [] i = omega arith

@@ -1,7 +1,7 @@
--- When a closed pool has no number in use, and what is known of the steps of its workers.
-use Rattle.std.specs.Prelude.{ℕ, ◌≡◌, List, [], sum_by, All}
-use Rattle.pool_rule.specs.Notes.{Count}
-use Rattle.pool_rule.specs.Pools.{Member, IsWithin, made_by, ended_by}
+-- When a closed pool has no number in use, what is known of the steps of its workers, and how its boxes come back.
+use Rattle.std.specs.Prelude.{ℕ, ◌≡◌, ◌≢◌, ◌⊎◌, ◌+◌, ◌<◌, List, [], length, sum_by, All, Some, None, slice_index_or}
+use Rattle.pool_rule.specs.Notes.{Count, Use}
+use Rattle.pool_rule.specs.Pools.{Handed, Member, IsWithin, made_by, ended_by}
 use Rattle.pool_rule.specs.Rules.{Among}
 use Rattle.pool_rule.specs.Views.{View}
 
@@ -25,3 +25,27 @@ AreCountsWithin workers = (v : View) → Member v workers → (c : Count) → Me
 -- each number that a worker's takes found in use was taken by some worker
 abbrev pub AreTakenByWorkers : List View → Type 0
 AreTakenByWorkers workers = (v : View) → Member v workers → (n : ℕ) → Among n v.full → (u : View) × Member u workers × Among n u.taken
+
+-- ---- boxes
+-- some worker's external used the slot
+abbrev pub IsUsed : List View → Use → Type 0
+IsUsed workers u = (v : View) × Member v workers × Member u v.used
+
+-- the box at a place
+abbrev pub box_at : List Handed → ℕ → Handed
+box_at boxes j = slice_index_or boxes j (record { calls = 0; latest = None })
+
+-- a box after one more release
+abbrev pub released : ℕ → Handed → Handed
+released length box = record { calls = box.calls + 1; latest = Some length }
+
+-- all boxes are back, in their first order
+pub record AreReturned (boxes : List Handed) (workers : List View) (in_use : ℕ) (back : List Handed) : Type 0 where
+  pub count : length back ≡ length boxes
+  -- a box whose slot no external used is as it was handed in
+  pub unused : (j : ℕ) → j < length boxes → ((u : Use) → IsUsed workers u → u.slot ≢ j) → box_at back j ≡ box_at boxes j
+  -- an external's slot is that of a box, which is as it was handed in, or had one more release, with the external's length
+  pub places : (u : Use) → IsUsed workers u → u.slot < length boxes
+  pub used : (u : Use) → IsUsed workers u → (box_at back u.slot ≡ box_at boxes u.slot) ⊎ (box_at back u.slot ≡ released u.length (box_at boxes u.slot))
+  -- where no number is in use, it had that release
+  pub called : in_use ≡ 0 → (u : Use) → IsUsed workers u → box_at back u.slot ≡ released u.length (box_at boxes u.slot)

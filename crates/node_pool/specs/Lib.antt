@@ -8,4 +8,5 @@ pub mod Passes
 pub mod Paths
 pub mod Starts
 pub mod Opened
+pub mod Outlets
 pub mod Tokens

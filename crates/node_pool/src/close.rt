@@ -1,7 +1,10 @@
 //! How a pool ends.
-ghost use Rattle.std.specs.Prelude.{◌≡◌, ◌+◌, ◌-◌, ◌^◌, ◌<◌, ◌≤◌, length, vec_len, vec_capacity};
+ghost use Rattle.std.specs.Prelude.{◌≡◌, ◌≢◌, ◌+◌, ◌-◌, ◌^◌, ◌<◌, ◌≤◌, [], ◌∷◌, ◌++◌, length, map, All, vec_len, vec_capacity};
 ghost use Rattle.pool_rule.specs.Pools.{IsKnown};
-ghost use Rattle.node_pool.specs.Closes.{IsAllIdle, IsWhole, AreCountsWithin, AreTakenByWorkers};
+ghost use Rattle.pool_rule.specs.Views.{View};
+ghost use Rattle.node_pool.specs.Boxes.{handed_of};
+ghost use Rattle.node_pool.specs.Closes.{IsAllIdle, IsWhole, AreCountsWithin, AreTakenByWorkers, AreReturned};
+ghost use Rattle.node_pool.specs.Outlets.{box_in};
 
 use crate::naming::Naming;
 use crate::outlet::Outlet;
@@ -23,12 +26,15 @@ pub struct Closed<B> {
 }
 
 impl<P: Naming, B: Releaser> Pool<P, B> {
-    /// All workers are given. Where they hold nothing, and ended together as many passes as they made, no number is in use.
+    /// All workers are given. Where they hold nothing, and ended together as many passes as they made, no number is in use. Where
+    /// none is, each box whose slot an external used was called for it, and no other box was.
     pub fn close(self, workers: Vec<Worker<P>>) -> Closed<B>
         requires all { length workers.items ≡ P.workers }
         ensures idle { IsAllIdle workers.items → result.in_use ≡ 0 }
         ensures counts { AreCountsWithin workers.items }
         ensures taken { AreTakenByWorkers workers.items }
+        ensures nothing { result.in_use ≡ 0 → All (λ (v : View). v.holds ≡ []) workers.items }
+        ensures boxes { AreReturned P.boxes workers.items result.in_use (map (λ b. record { calls = B.calls_of b; latest = B.latest_of b }) result.releasers.items) }
     {
         let Pool {
             table,
@@ -62,7 +68,7 @@ impl<P: Naming, B: Releaser> Pool<P, B> {
     }
 }
 
-// How many words aren't 0, and the boxes that are at home.
+// How many words aren't 0, and the boxes of all slots, in their order. The seat is all workers.
 pub(crate) fn emptied<B: Releaser>(
     table: Table<Option<Outlet<B>>, TokenView, PoolTerms, CountRule, Global>,
     seat: TokenSeat<B>,
@@ -71,9 +77,13 @@ pub(crate) fn emptied<B: Releaser>(
 ) -> (u32, Vec<B>)
     requires seat { seat.table_id ≡ table.shared.table_id }
     requires numbers { (table.shared.table_id.words ≡ numbers + 1) × (table.shared.key.numbers ≡ numbers) × (numbers < 2 ^ 32) }
+    requires boxes { length table.shared.key.boxes.items ≡ table.shared.table_id.slots }
     requires room { (vec_len returned ≡ 0) × (table.shared.table_id.slots ≤ vec_capacity returned) }
+    requires whole { (seat.me.0.spare ≡ table.shared.key.workers) × (seat.me.0.away ≡ []) }
     ensures idle { IsWhole table.shared.key.workers seat.me.0 → result.0 ≡ 0 }
-    ensures known { seat.me.0.spare ≡ table.shared.key.workers → IsKnown seat.me.0 }
+    ensures known { IsKnown seat.me.0 }
+    ensures nothing { result.0 ≡ 0 → seat.me.0.holds ≡ [] }
+    ensures boxes { AreReturned (map handed_of table.shared.key.boxes.items) (seat.me.0 ∷ []) result.0 (map (λ b. record { calls = B.calls_of b; latest = B.latest_of b }) result.1.items) }
 {
     let mut returned = returned;
     let slots = table.slot_count();
@@ -95,6 +105,7 @@ fn in_use_with(in_use: u32, word: u64) -> u32
     requires { in_use < 2 ^ 32 - 1 }
     ensures most { result ≤ in_use + 1 }
     ensures free { word ≡ 0 → result ≡ in_use }
+    ensures used { word ≢ 0 → result ≡ in_use + 1 }
 {
     if word == 0 { in_use } else { in_use + 1 }
 }
@@ -102,6 +113,7 @@ fn in_use_with(in_use: u32, word: u64) -> u32
 // The box of a slot.
 pub(crate) fn give_back<B: Releaser>(returned: &mut Vec<B>, slot: Option<Outlet<B>>)
     requires { vec_len returned.old < vec_capacity returned.old }
+    ensures back { returned.new.items ≡ returned.old.items ++ box_in slot }
     ensures count { vec_len returned.new ≤ vec_len returned.old + 1 }
     ensures room { vec_capacity returned.new ≡ vec_capacity returned.old }
 {

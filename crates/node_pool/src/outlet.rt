@@ -17,8 +17,11 @@ pub struct Outlet<B: Releaser> {
 }
 
 impl<B: Releaser> Outlet<B> {
+    ghost use Rattle.node_pool.specs.Outlets.{inner_of};
+
     pub fn new(inner: B) -> Outlet<B>
         requires room { B.calls_of inner < 2 ^ 64 - 1 }
+        ensures inner { inner_of result ≡ inner }
         ensures before { result.before ≡ B.calls_of inner }
         ensures latest { result.latest ≡ B.latest_of inner }
         ensures fresh { result.length ≡ None }
@@ -45,6 +48,7 @@ impl<B: Releaser> Outlet<B> {
     }
 
     pub fn into_inner(self) -> B
+        ensures inner { result ≡ inner_of self }
         ensures calls { B.calls_of result ≡ calls_after self.before self.length }
         ensures latest { B.latest_of result ≡ latest_after self.latest self.length }
     {

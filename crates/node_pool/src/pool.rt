@@ -1,5 +1,5 @@
 //! The pool.
-ghost use Rattle.std.specs.Prelude.{◌≡◌, ◌+◌, ◌^◌, ◌<◌, ◌≤◌, map, vec_len, vec_capacity};
+ghost use Rattle.std.specs.Prelude.{◌≡◌, ◌+◌, ◌^◌, ◌<◌, ◌≤◌, length, map, vec_len, vec_capacity};
 ghost use Rattle.node_pool.specs.Boxes.{handed_of};
 
 use crate::naming::Naming;
@@ -25,6 +25,7 @@ pub struct Pool<P: Naming, B: Releaser> {
     ghost limited: { passes ≡ P.limit },
     ghost workers: { table.shared.key.workers ≡ P.workers },
     ghost boxed: { map handed_of table.shared.key.boxes.items ≡ P.boxes },
+    ghost slotted: { length table.shared.key.boxes.items ≡ table.shared.table_id.slots },
     ghost small: { P.size ≤ 2 ^ 18 },
     ghost some: { 0 < P.workers },
     ghost reserved: { (vec_len returned ≡ 0) × (table.shared.table_id.slots ≤ vec_capacity returned) },

@@ -4,6 +4,7 @@ ghost use Rattle.std.specs.Option.{option_map};
 ghost use Rattle.count_core.specs.Steps.{zeroes};
 ghost use Rattle.pool_rule.specs.Views.{first_view};
 ghost use Rattle.node_pool.specs.Boxes.{below, handed_of, fresh_of, box_of};
+ghost use Rattle.node_pool.specs.Outlets.{boxes_in};
 ghost use Rattle.node_pool.specs.Starts.{slot_count, new_workers};
 
 use crate::close::{emptied, give_back};
@@ -30,6 +31,7 @@ pub struct Opened<B: Releaser> {
     pub(crate) returned: Vec<B>,
     ghost wide: { table.shared.table_id.words ≡ numbers + 1 },
     ghost keyed: { (table.shared.key.numbers ≡ numbers) × (table.shared.key.workers ≡ workers) },
+    ghost slotted: { length table.shared.key.boxes.items ≡ table.shared.table_id.slots },
     ghost seated: { badge.table_id ≡ table.shared.table_id },
     ghost first: { badge.views ≡ first_view (2 ^ 24) numbers passes workers (below (slot_count workers table.shared.table_id.slots)) ∷ [] },
     ghost small: { (0 < numbers) × (numbers ≤ 2 ^ 18) × (passes ≤ 2 ^ 18) × (0 < workers) × (workers ≤ 64) },
@@ -75,6 +77,8 @@ fn housed<B: Releaser>(
     requires slots { (vec_len slots.old ≡ 0) × (length releasers.items ≤ vec_capacity slots.old) }
     requires boxes { (vec_len boxes.old ≡ 0) × (length releasers.items ≤ vec_capacity boxes.old) }
     ensures slots { vec_len slots.new ≡ length releasers.items }
+    ensures count { vec_len boxes.new ≡ length releasers.items }
+    ensures boxes { boxes_in slots.new.items ≡ releasers.items }
     ensures noted { map handed_of boxes.new.items ≡ map (λ b. record { calls = B.calls_of b; latest = B.latest_of b }) releasers.items }
     ensures fresh { map (option_map (λ o. box_of o.before o.latest o.length)) slots.new.items ≡ map fresh_of boxes.new.items }
 {
@@ -88,6 +92,7 @@ fn housed<B: Releaser>(
 // The boxes in slots that no token has.
 fn unhoused<B: Releaser>(slots: Vec<Option<Outlet<B>>>, mut returned: Vec<B>) -> Vec<B>
     requires { (vec_len returned ≡ 0) × (length slots.items ≤ vec_capacity returned) }
+    ensures { result.items ≡ boxes_in slots.items }
 {
     for slot in slots {
         give_back(&mut returned, slot);

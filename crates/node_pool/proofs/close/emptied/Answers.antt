@@ -1,7 +1,15 @@
 -- What the proof of `emptied` needs beyond the search.
-use Rattle.std.proofs.Common.{rules, arith, ◌≡◌, ℕ, ◌<◌, ◌≤◌, ◌+◌, get_or, true, false, ap, sym, subst, ◌∙◌, below_more, get_or-set_other, get_or-set_same}
-use Rattle.std.specs.Slots.{slots_filled, slots_counts, slots_len}
-use Rattle.node_pool.proofs.Closing.{zero_word, known_at}
+use Rattle.std.proofs.Common.{rules, arith, ◌≡◌, ℕ, ◌<◌, ◌≤◌, ◌+◌, get_or, true, false, ap, sym, subst, ◌∙◌, below_more, get_or-set_other, get_or-set_same, ◌++◌, ◌∷◌, [], refl, length, map, take}
+use lib.ListN.{get_elem?}
+use Rattle.std.specs.Slots.{slots_filled, slots_items, slots_counts, slots_len}
+use Rattle.std.proofs.Math.Numerals.{add-one}
+use Rattle.std.proofs.Math.Seq.{take-length}
+use Rattle.std.proofs.lemmas.List.{length-map}
+use Rattle.node_pool.specs.Boxes.{handed_of}
+use Rattle.node_pool.specs.Closes.{AreReturned}
+use Rattle.node_pool.specs.Outlets.{box_in, boxes_in}
+use Rattle.node_pool.proofs.Closing.{zero_word, still_free, known_at}
+use Rattle.node_pool.proofs.Returning.{boxes_in-take, handed_in, nothing_held, returned}
 use Rattle.node_pool.proofs.close.emptied.Goals as goal
 
 pub loop-n-preserved : goal.loop-n-preserved
@@ -12,6 +20,7 @@ loop-n-preserved g c =
     let low = c.loop-n-test.true in
     record {
       few = omega (arith, inv.few, e.most);
+      free = still_free _ _ _ _ _ c.word.ensures e.free e.used inv.free;
       idle = λ w. e.free (zero_word _ _ _ _ _ _ _ c.close_with-closed.ensures.values.2 w (omega (arith, keyed.1, low)) c.word.ensures) ∙ inv.idle w;
     }
 
@@ -35,10 +44,30 @@ loop-i-preserved g c =
     let long = n.1 in
     record {
       len = t.others.2 ∙ inv.len;
+      items = t.others.0 ∙ inv.items;
+      gave = p.back ∙ (ap (λ l. l ++ box_in c.take-slot.result) inv.gave ∙ sym (ap (λ (k : ℕ). boxes_in (take k (slots_items c.close_with-closed.result.slots))) (add-one i) ∙ boxes_in-take (slots_items c.close_with-closed.result.slots) i c.take-slot.result (sym (ap (λ l. get_elem? l i) inv.items) ∙ t.value)));
       room = (omega (arith, p.count, inv.room.0), omega (arith, p.room, inv.room.1));
       full = λ k a b. ap (λ f. get_or f k false) t.others.1 ∙ (get_or-set_other before i k false false (λ e. omega (arith, a, e)) ∙ inv.full k (omega (arith, a)) (subst (λ (z : ℕ). k < z) t.others.2 b));
       empty = λ k a. ap (λ f. get_or f k false) t.others.1 ∙ below_more (λ (j : ℕ). get_or (Rattle.std.proofs.Common.set before i false) j false ≡ false) i (λ j l. get_or-set_other before i j false false (λ e. omega (arith, l, e)) ∙ inv.empty j l) (get_or-set_same before i false false (omega (arith, len, long, counts.1, c.slot_count-slots.ensures))) k a;
     }
 
 pub returns-clause-known : goal.returns-clause-known
-returns-clause-known g c = λ all. known_at _ _ _ _ _ c.close_with-closed.ensures.values.2 all
+returns-clause-known g c = known_at _ _ _ _ _ c.close_with-closed.ensures.values.2 c.requires.whole.0
+
+pub returns-clause-nothing : goal.returns-clause-nothing
+returns-clause-nothing g c = λ z. nothing_held _ _ _ _ _ c.close_with-closed.ensures.values.2 (λ n low. c.loop-n.invariant.free z n (omega (arith, low, c.requires.numbers.1)))
+
+pub returns-clause-boxes : goal.returns-clause-boxes
+returns-clause-boxes g c =
+    let keyed = c.requires.numbers in
+    let inv = c.loop-i.invariant in
+    let xs = slots_items c.close_with-closed.result.slots in
+    let n = slots_counts c.close_with-closed.result.slots in
+    let counts = c.close_with-closed.ensures.counts in
+    let long : c.slot_count-slots.result ≡ length xs = omega (arith, n.0, counts.1, c.slot_count-slots.ensures) in
+    let all : c.loop-i.i ≡ c.slot_count-slots.result = omega (arith, c.loop-i-test.false, c.loop-i.auto.i-end) in
+    let gave : c.loop-i.returned.items ≡ boxes_in xs = inv.gave ∙ ap boxes_in (ap (λ (i : ℕ). take i xs) (all ∙ long) ∙ take-length xs) in
+    let boxes = c.args.table.shared.key.boxes.items in
+    subst (λ l. AreReturned (map handed_of boxes) (c.args.seat.me.0 ∷ []) c.loop-n.in_use (map (handed_in g.B.Releaser) l)) (sym gave)
+    (returned _ _ _ _ xs c.close_with-closed.ensures.values.2 (λ x. refl) c.requires.whole.0 c.requires.whole.1 (omega (arith, length-map boxes handed_of, c.requires.boxes, long, c.slot_count-slots.ensures)) c.loop-n.in_use
+    (λ z k low. c.loop-n.invariant.free z k (omega (arith, low, c.requires.numbers.1))))

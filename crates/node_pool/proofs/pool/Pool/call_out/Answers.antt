@@ -1,16 +1,22 @@
 -- What the proof of `Pool::call_out` needs beyond the search.
-use Rattle.std.proofs.Common.{◌≡◌, ℕ, ◌<◌, ◌+◌, List, [], ◌∷◌, sym, ap, ◌∙◌, subst, arith}
+use Rattle.std.proofs.Common.{◌≡◌, ℕ, [], ◌∷◌, sym, ap, ◌∙◌, arith}
 use Rattle.std.specs.Prelude.{Option, Some, None, slice_index_or}
 use Rattle.std.specs.Option.{option_map}
-use Rattle.atomic_table.specs.Table.{Me, rest}
-use Rattle.pool_rule.specs.Notes.{Use, use_of}
+use Rattle.atomic_table.specs.Table.{rest}
+use Rattle.pool_rule.specs.Notes.{use_of}
 use Rattle.pool_rule.specs.Pools.{Handed, Box}
-use Rattle.pool_rule.specs.Views.{View}
 use Rattle.pool_rule.proofs.Calls.{homes}
 use Rattle.node_pool.specs.declared.outlet.Outlet.{Outlet}
 use Rattle.node_pool.specs.Boxes.{box_of}
 use Rattle.node_pool.proofs.Calling.{called_is, value_is}
 use Rattle.node_pool.proofs.pool.Pool.call_out.Goals as goal
+
+pub exchange-requires-2 : goal.exchange-requires-2
+exchange-requires-2 g c =
+    let pool = c.args.self.now in
+    let a = c.exchange.ensures in
+    let e = ap (λ m. m.1) a.3 in
+    (a.0 ∙ (c.requires.table ∙ sym pool.named), (None, e ∙ ap (λ l. (c.args.slot, None) ∷ rest l) (sym e)))
 
 pub load-requires : goal.load-requires
 load-requires g c =

@@ -1,12 +1,15 @@
 -- What the proof of `Pool::close` needs beyond the search.
-use Rattle.std.proofs.Common.{rules, ◌≡◌, ◌++◌, ◌∷◌, [], List, ap, sym, ◌∙◌, subst, arith}
+use Rattle.std.proofs.Common.{rules, ◌≡◌, ◌++◌, ◌∷◌, [], List, map, ap, sym, ◌∙◌, subst, arith}
 use Rattle.std.proofs.lemmas.Iterator.Adapters.{YieldsList-from_vec}
 use Rattle.std.proofs.lemmas.Iterator.Consumers.{YieldsList-end}
+use Rattle.pool_rule.specs.Pools.{Handed}
 use Rattle.pool_rule.specs.Views.{View}
-use Rattle.node_pool.specs.Closes.{IsWhole}
+use Rattle.node_pool.specs.Boxes.{handed_of}
+use Rattle.node_pool.specs.Closes.{IsWhole, AreReturned}
 use Rattle.node_pool.specs.Tokens.{IsWorkerView}
+use Rattle.node_pool.proofs.Returning.{handed_in}
 use Rattle.node_pool.proofs.Seats.{seat_view}
-use Rattle.node_pool.proofs.Closing.{IsMerged, merged_more, map-id, merged_whole, merged_counts, merged_taken, spare_all, merge_at}
+use Rattle.node_pool.proofs.Closing.{IsMerged, merged_more, map-id, merged_whole, merged_counts, merged_taken, merge_at, merged_nothing, merged_boxes}
 use Rattle.node_pool.proofs.pool.Pool.close.Goals as goal
 
 pub join_seat-requires : goal.join_seat-requires
@@ -47,11 +50,14 @@ returns g c =
     let whole : c.pop.new.self.items ≡ c.loop-worker.yielded = sym (sym (map-id c.loop-worker.yielded) ∙ (YieldsList-end items c.loop-worker.yielded c.loop-worker.worker-iterator c.loop-worker.yielded_by c.next.result c.next.new.self c.in-None.is c.next.ensures.steps).0) in
     let all : c.args.workers.items ≡ c.loop-worker.yielded ++ c.in-Some.first ∷ [] = c.in-Some.ensures.items ∙ ap (λ (l : List View). l ++ c.in-Some.first ∷ []) whole in
     let parts = all ∙ (λ q. c.loop-worker.yielded ++ sym first q ∷ []) in
-    let spare = spare_all g.P.Naming.workers c.into_seat-seat.result.me.0 c.loop-worker.yielded c.args.workers.items c.loop-worker.seat.me.0 inv.merged parts c.requires.all in
-    let known = c.emptied-in_use.ensures.known (spare ∙ sym pool.workers) in
+    let known = c.emptied-in_use.ensures.known in
+    let back : List Handed = map (handed_in g.B.Releaser) c.emptied-in_use.result.1.items in
     record {
       idle = λ idle. c.emptied-in_use.ensures.idle (subst (λ k. IsWhole k c.loop-worker.seat.me.0) (sym pool.workers)
           (merged_whole g.P.Naming.workers c.into_seat-seat.result.me.0 c.loop-worker.yielded c.args.workers.items c.loop-worker.seat.me.0 inv.merged parts c.requires.all idle));
       counts = merged_counts c.into_seat-seat.result.me.0 c.loop-worker.yielded c.args.workers.items c.loop-worker.seat.me.0 inv.merged parts known;
       taken = merged_taken c.into_seat-seat.result.me.0 c.loop-worker.yielded c.args.workers.items c.loop-worker.seat.me.0 inv.merged parts known;
+      nothing = λ z. merged_nothing c.into_seat-seat.result.me.0 c.loop-worker.yielded c.args.workers.items c.loop-worker.seat.me.0 inv.merged parts (c.emptied-in_use.ensures.nothing z);
+      boxes = subst (λ (z : List Handed). AreReturned z c.args.workers.items c.emptied-in_use.result.0 back) pool.boxed
+          (merged_boxes c.into_seat-seat.result.me.0 c.loop-worker.yielded c.args.workers.items c.loop-worker.seat.me.0 inv.merged parts (map handed_of pool.table.shared.key.boxes.items) back c.emptied-in_use.result.0 c.emptied-in_use.ensures.boxes);
     }

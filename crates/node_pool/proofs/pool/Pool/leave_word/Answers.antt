@@ -1,12 +1,12 @@
 -- What the proof of `Pool::leave_word` needs beyond the search.
-use Rattle.std.proofs.Common.{◌≡◌, ◌≢◌, ◌⊎◌, ◌<◌, List, [], ◌∷◌, sym, ap, ◌∙◌, subst, arith}
+use Rattle.std.proofs.Common.{◌≡◌, [], ◌∷◌, sym, ap, ◌∙◌, subst, arith}
 use Rattle.std.specs.Option.{option_map}
-use Rattle.node_forest.specs.Label.{Node, number}
+use Rattle.node_forest.specs.Label.{number}
 use Rattle.node_forest.specs.Members.{Occurs}
 use Rattle.count_core.specs.Holders.{Fitting}
 use Rattle.pool_rule.specs.Rules.{IsSane}
 use Rattle.pool_rule.specs.Plays.{AreOneEach}
-use Rattle.pool_rule.specs.Views.{View, leaving, homing}
+use Rattle.pool_rule.specs.Views.{View, leaving}
 use Rattle.node_pool.specs.declared.outlet.Outlet.{Outlet}
 use Rattle.node_pool.specs.Boxes.{box_of, pool_terms}
 use Rattle.node_pool.specs.Tokens.{only, IsWorkerView}
