@@ -1,5 +1,5 @@
 //! How a pool begins: without a name, which the program then gives it.
-ghost use Rattle.std.specs.Prelude.{◌≡◌, ◌+◌, ◌-◌, ◌*◌, ◌^◌, ◌<◌, ◌≤◌, [], ◌∷◌, length, map, min, All, IfOk, vec_len, vec_capacity, Some};
+ghost use Rattle.std.specs.Prelude.{◌≡◌, ◌+◌, ◌-◌, ◌*◌, ◌^◌, ◌<◌, ◌≤◌, [], ◌∷◌, length, map, min, All, IfOk, IfErr, vec_len, vec_capacity, Some};
 ghost use Rattle.std.specs.Option.{option_map};
 ghost use Rattle.count_core.specs.Steps.{zeroes};
 ghost use Rattle.pool_rule.specs.Views.{first_view};
@@ -38,7 +38,7 @@ pub struct Opened<B: Releaser> {
     ghost reserved: { (vec_len returned ≡ 0) × (table.shared.table_id.slots ≤ vec_capacity returned) },
 }
 
-/// Want of memory. The boxes come back.
+/// Want of memory. The boxes come back, in their order, as they were handed in.
 #[derive(Drop)]
 pub struct PoolRefused<B> {
     pub releasers: Vec<B>,
@@ -122,6 +122,7 @@ impl<B: Releaser> Opened<B> {
         ensures workers { IfOk result (λ o. opened_workers o ≡ workers) }
         ensures slots { IfOk result (λ o. (opened_table o).slots ≡ length releasers.items) }
         ensures boxes { IfOk result (λ o. opened_boxes o ≡ map (λ b. record { calls = B.calls_of b; latest = B.latest_of b }) releasers.items) }
+        ensures refused { IfErr result (λ r. r.releasers.items ≡ releasers.items) }
     {
         let count = releasers.len();
         let Ok(room) = reserve(alloc, numbers as usize, count) else {
@@ -169,6 +170,7 @@ impl<B: Releaser> Opened<B> {
         requires workers { opened_workers self ≡ P.workers }
         requires boxes { opened_boxes self ≡ P.boxes }
         ensures workers { IfOk result (λ r. r.1.items ≡ new_workers P.size P.limit P.workers (slot_count P.workers P.table.slots)) }
+        ensures refused { IfErr result (λ r. map (λ b. record { calls = B.calls_of b; latest = B.latest_of b }) r.releasers.items ≡ P.boxes) }
     {
         let Opened {
             table,

@@ -1,9 +1,11 @@
 -- What the proof of `Opened::named` needs beyond the search.
 use Rattle.std.proofs.Common.{◌≡◌, ◌+◌, [], ap, sym, ◌∙◌, arith}
-use Rattle.pool_rule.specs.Views.{narrower, part_of}
+use Rattle.pool_rule.specs.Views.{View, narrower, part_of}
 use Rattle.node_pool.specs.Starts.{slot_count}
 use Rattle.node_pool.specs.Tokens.{only}
 use Rattle.node_pool.proofs.Hiring.{hire_at, hired_left, hired_more}
+use Rattle.node_pool.proofs.Returning.{untouched}
+use Rattle.node_pool.proofs.Seats.{seat_view}
 use Rattle.node_pool.proofs.start.Opened.named.Goals as goal
 
 pub split_seat-part-requires : goal.split_seat-part-requires
@@ -28,3 +30,8 @@ loop-i-preserved g c =
       count = omega (arith, inv.count, ap (λ l. Rattle.std.proofs.Common.length l) p.items);
       room = omega (arith, inv.room, p.capacity);
     }
+
+pub returns-in_default-clause-refused : goal.returns-in_default-clause-refused
+returns-in_default-clause-refused g c =
+    let first = seat_view _ _ _ c.into_seat-seat.ensures.2 (ap only c.args.self.first) in
+    untouched _ _ _ _ (ap (λ (v : View). v.used) first) c.emptied-releasers.ensures.boxes ∙ c.requires.boxes
