@@ -85,6 +85,10 @@ fn two_sessions_meet_at_a_cell(rt: HostRuntime) -> Result<(), Fail> {
     assert_eq!(rt; board.take(&rt, &mut one, 7).map_or(0, |b| b.0), 6);
     assert!(rt; board.take(&rt, &mut two, 7).is_none());
     assert!(rt; board.put(&rt, &mut one, 63, Bytes(4)).is_none());
+    assert_eq!(rt;
+        board.put(&rt, &mut one, 63, Bytes(3)).map_or(0, |b| b.0),
+        4
+    );
     board.merge(&mut root, one);
     board.merge(&mut root, two);
     cleared(&rt, &board, &mut root);
@@ -96,6 +100,7 @@ fn two_sessions_meet_at_a_cell(rt: HostRuntime) -> Result<(), Fail> {
         entry(1, 3, Act::Take, 7, None, Some(6)),
         entry(2, 3, Act::Take, 7, None, None),
         entry(1, 4, Act::Put, 63, Some(4), None),
+        entry(1, 5, Act::Put, 63, Some(3), None),
     ];
     assert_eq!(rt; board.finish(root).as_slice(), wanted.as_slice());
     Ok(())
