@@ -4,6 +4,7 @@ pub mod Closing
 pub mod Finishing
 pub mod Hiring
 pub mod Marking
+pub mod OwnSlots
 pub mod Passing
 pub mod Returning
 pub mod Seats

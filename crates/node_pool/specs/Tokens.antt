@@ -1,10 +1,12 @@
 -- What is true of workers and passes between calls.
-use Rattle.std.specs.Prelude.{ℕ, ◌≡◌, ◌≤◌, List, [], ◌∷◌, length}
+use Rattle.std.specs.Prelude.{ℕ, ◌≡◌, ◌+◌, ◌≤◌, List, [], ◌∷◌, length, drop}
 use Rattle.atomic_table.specs.Seated.{TableId}
 use Rattle.node_forest.specs.Label.{Node}
 use Rattle.count_core.specs.Holders.{Fitting}
 use Rattle.pool_rule.specs.Rules.{IsSane, Narrow}
 use Rattle.pool_rule.specs.Views.{View, blank, empty_pass, with_holds}
+use Rattle.node_pool.specs.Boxes.{below}
+use Rattle.node_pool.specs.declared.slots.Slots.{Slots}
 
 -- a badge's one view
 abbrev pub only : List View → View
@@ -23,6 +25,11 @@ pub record IsWorkerView (numbers most : ℕ) (v : View) : Type 0 where
   pub passes : v.passes ≡ 0
   pub away : v.away ≡ []
   pub joined : v.joined ≡ []
+
+-- a worker's slots before the next one are used, and those from it up to the end are unused, in order
+pub record HasSlots (s : Slots) (v : View) : Type 0 where
+  pub used : s.next ≡ s.first + length v.used
+  pub unused : v.unused ≡ drop s.next (below s.end)
 
 -- a pass that holds these
 abbrev pub pass_with : ℕ → ℕ → List Node → View

@@ -50,6 +50,7 @@ impl<P: Naming, B: Releaser> Pool<P, B> {
         let Worker {
             badge,
             next: _,
+            slots: _,
             of: _,
         } = first;
         let mut seat: TokenSeat<B> = badge.into_seat();
@@ -57,6 +58,7 @@ impl<P: Naming, B: Releaser> Pool<P, B> {
             let Worker {
                 badge,
                 next: _,
+                slots: _,
                 of: _,
             } = worker;
             table

@@ -14,6 +14,7 @@ mod outlet;
 mod passes;
 mod plays;
 mod pool;
+mod slots;
 mod start;
 #[cfg(test)]
 mod tests;

@@ -12,6 +12,7 @@ use crate::naming::Naming;
 use crate::outlet::Outlet;
 use crate::plays::Hires;
 use crate::pool::Pool;
+use crate::slots::Slots;
 use crate::tokens::Worker;
 use crate::view::{CountRule, PoolTerms, TokenSeat, TokenView};
 use atomic_table::{Badge, Refused, Table};
@@ -186,17 +187,20 @@ impl<B: Releaser> Opened<B> {
             return Err(PoolRefused { releasers });
         };
         let apart = numbers / workers;
+        let slots = table.slot_count().min(workers * 16);
         for i in 0..workers - 1 {
             let part = table.shared.split_seat::<Hires>(&mut seat);
             hired.push_reserved(Worker {
                 badge: part.into_badge(),
                 next: begin(i, apart, numbers),
+                slots: Slots::of_worker(i, slots),
                 of: PhantomData,
             });
         }
         hired.push_reserved(Worker {
             badge: seat.into_badge(),
             next: begin(workers - 1, apart, numbers),
+            slots: Slots::of_worker(workers - 1, slots),
             of: PhantomData,
         });
         let pool = Pool {

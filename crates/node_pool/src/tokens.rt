@@ -1,22 +1,24 @@
 //! The tokens of threads, and of what keeps a tree.
 use crate::naming::Naming;
+use crate::slots::Slots;
 use crate::view::TokenView;
 use atomic_table::Badge;
 use std::marker::{Model, PhantomData};
 
-/// The token of one thread. It has no bytes but where its next take begins. Contracts see what it knows: its direct holds, its
-/// lone numbers, its releaser slots, and what its steps found.
+/// The token of one thread. It has no bytes but where its next take begins and which of its releaser slots are used. Contracts
+/// see what it knows: its direct holds, its lone numbers, its releaser slots, and what its steps found.
 #[derive(Drop)]
 pub struct Worker<P: Naming> {
     pub(crate) badge: Badge<TokenView>,
     pub(crate) next: u32,
+    pub(crate) slots: Slots,
     pub(crate) of: PhantomData<P>,
 }
 
 impl<P: Naming> Model for Worker<P> {
     ghost use Rattle.std.specs.Prelude.{◌≡◌, ◌<◌};
     ghost use Rattle.pool_rule.specs.Views.{View, coded_view};
-    ghost use Rattle.node_pool.specs.Tokens.{only, IsToken, IsWorkerView};
+    ghost use Rattle.node_pool.specs.Tokens.{only, IsToken, IsWorkerView, HasSlots};
 
     ghost Value = { View };
 
@@ -24,7 +26,7 @@ impl<P: Naming> Model for Worker<P> {
 
     ghost view = { λ w. only w.badge.views };
 
-    ghost invariant = { λ w. (w.next < P.size) × IsToken (IsWorkerView P.size P.limit) P.table w.badge.table_id w.badge.views };
+    ghost invariant = { λ w. (w.next < P.size) × IsToken (IsWorkerView P.size P.limit) P.table w.badge.table_id w.badge.views × HasSlots w.slots (only w.badge.views) };
 }
 
 /// The token of one cord or one record. It holds one tree or none.

@@ -41,6 +41,9 @@ impl<P: Naming, B: Releaser> Pool<P, B> {
             .shared
             .compare_exchange::<Takes<T>>(&mut seat, edge.number() as usize, 0, 1);
         w.badge = seat.into_badge();
+        if found == 0 {
+            w.slots.took(edge);
+        }
         found
     }
 

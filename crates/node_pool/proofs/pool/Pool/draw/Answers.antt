@@ -1,10 +1,11 @@
 -- What the proof of `Pool::draw` needs beyond the search.
-use Rattle.std.proofs.Common.{◌≡◌, [], ◌∷◌, sym, ap, ◌∙◌, subst, arith}
+use Rattle.std.proofs.Common.{◌≡◌, [], ◌∷◌, refl, sym, ap, ◌∙◌, subst, arith}
 use Rattle.pool_rule.specs.Views.{drawing, parting}
 use Rattle.node_pool.specs.Tokens.{IsWorkerView, IsPassView}
 use Rattle.node_pool.specs.Passes.{drawn}
 use Rattle.node_pool.proofs.Seats.{seat_view, token_of}
 use Rattle.node_pool.proofs.Passing.{join_at, part_at, drawn_is, drawn_worker}
+use Rattle.node_pool.proofs.OwnSlots.{slots_stay}
 use Rattle.node_pool.proofs.pool.Pool.draw.Goals as goal
 
 pub join_seat-requires : goal.join_seat-requires
@@ -60,5 +61,8 @@ invariant_of-w g c =
     let e = c.join_seat.ensures in
     let s = c.split_seat-empty.ensures in
     let b = c.into_badge.ensures in
-    let view : c.split_seat-empty.new.seat.me.0 ≡ drawn c.args.w.now c.args.p.now = ap (λ x. x.0) s.2 ∙ (ap (λ x. parting x.0) e.2 ∙ ((λ q. parting (drawing (is q) (is' q))) ∙ drawn_is n m _ _ worker pass)) in
-    (c.w.invariant.0, token_of _ _ _ _ (drawn c.args.w.now c.args.p.now) (b.0 ∙ (s.0 ∙ (e.0 ∙ table))) (b.2 ∙ (λ q. view q ∷ [])) (drawn_worker n m _ _ worker pass c.requires.room))
+    let view : c.split_seat-empty.new.seat.me.0 ≡ drawn c.args.w.now c.args.p.now = ap (λ x. x.0) s.2 ∙ (ap (λ x. parting x.0) e.2 ∙ ((λ q. parting (drawing (is q) (is' q))) ∙ drawn_is n m _ _ worker pass)) in (
+      c.w.invariant.0,
+      token_of _ _ _ _ (drawn c.args.w.now c.args.p.now) (b.0 ∙ (s.0 ∙ (e.0 ∙ table))) (b.2 ∙ (λ q. view q ∷ [])) (drawn_worker n m _ _ worker pass c.requires.room),
+      slots_stay _ _ _ c.args.w.now (drawn c.args.w.now c.args.p.now) c.w.invariant.2 c.w.view_is (b.2 ∙ (λ q. view q ∷ [])) refl refl,
+    )

@@ -1,11 +1,12 @@
 -- What the proof of `Pool::end` needs beyond the search.
-use Rattle.std.proofs.Common.{◌≡◌, [], ◌∷◌, List, length, sym, ap, ◌∙◌, subst, arith}
+use Rattle.std.proofs.Common.{◌≡◌, [], ◌∷◌, List, length, refl, sym, ap, ◌∙◌, subst, arith}
 use Rattle.node_forest.specs.Label.{Node}
 use Rattle.pool_rule.specs.Views.{drawing, ending}
 use Rattle.node_pool.specs.Tokens.{IsWorkerView, IsPassView}
 use Rattle.node_pool.specs.Passes.{uncounted}
 use Rattle.node_pool.proofs.Seats.{seat_view, token_of}
 use Rattle.node_pool.proofs.Passing.{join_at, end_at, ended_is, uncounted_worker}
+use Rattle.node_pool.proofs.OwnSlots.{slots_stay}
 use Rattle.node_pool.proofs.pool.Pool.end.Goals as goal
 
 pub join_seat-requires : goal.join_seat-requires
@@ -61,5 +62,8 @@ invariant_of-w g c =
     let e = c.join_seat.ensures in
     let s = c.fetch_sub.ensures in
     let b = c.into_badge.ensures in
-    let view : c.fetch_sub.new.seat.me.0 ≡ uncounted c.args.w.now = s.2.view ∙ (ap (λ x. ending x.0) e.2 ∙ ((λ q. ending (drawing (is q) (is' q))) ∙ ended_is n m _ _ worker pass c.requires.empty)) in
-    (c.w.invariant.0, token_of _ _ _ _ (uncounted c.args.w.now) (b.0 ∙ (s.0 ∙ (e.0 ∙ table))) (b.2 ∙ (λ q. view q ∷ [])) (uncounted_worker n m _ worker))
+    let view : c.fetch_sub.new.seat.me.0 ≡ uncounted c.args.w.now = s.2.view ∙ (ap (λ x. ending x.0) e.2 ∙ ((λ q. ending (drawing (is q) (is' q))) ∙ ended_is n m _ _ worker pass c.requires.empty)) in (
+      c.w.invariant.0,
+      token_of _ _ _ _ (uncounted c.args.w.now) (b.0 ∙ (s.0 ∙ (e.0 ∙ table))) (b.2 ∙ (λ q. view q ∷ [])) (uncounted_worker n m _ worker),
+      slots_stay _ _ _ c.args.w.now (uncounted c.args.w.now) c.w.invariant.2 c.w.view_is (b.2 ∙ (λ q. view q ∷ [])) refl refl,
+    )

@@ -1,5 +1,5 @@
 -- What the proof of `Pool::hand` needs beyond the search.
-use Rattle.std.proofs.Common.{◌≡◌, [], ◌∷◌, sym, ap, ◌∙◌, subst, arith}
+use Rattle.std.proofs.Common.{◌≡◌, [], ◌∷◌, refl, sym, ap, ◌∙◌, subst, arith}
 use Rattle.pool_rule.specs.Trades.{Trades}
 use Rattle.pool_rule.specs.Views.{View, drawing, giving, holder}
 use Rattle.pool_rule.proofs.Giving.{gives-trades}
@@ -7,6 +7,7 @@ use Rattle.node_pool.specs.Tokens.{only, IsWorkerView, IsPassView}
 use Rattle.node_pool.specs.Passes.{filled}
 use Rattle.node_pool.proofs.Seats.{seat_view, token_of}
 use Rattle.node_pool.proofs.Passing.{join_at, hand_at, filled_is, filled_worker, given_view}
+use Rattle.node_pool.proofs.OwnSlots.{slots_stay}
 use Rattle.node_pool.proofs.pool.Pool.hand.Goals as goal
 
 pub join_seat-requires : goal.join_seat-requires
@@ -63,8 +64,11 @@ invariant_of-w g c =
     let e = c.join_seat.ensures in
     let s = c.split_seat-filled.ensures in
     let b = c.into_badge.ensures in
-    let view : c.split_seat-filled.new.seat.me.0 ≡ filled t c.args.w.now = ap (λ x. x.0) s.2 ∙ (ap (λ x. giving t x.0) e.2 ∙ ((λ q. giving t (drawing (is q) (is' q))) ∙ filled_is n m t _ _ worker pass c.requires.empty)) in
-    (c.w.invariant.0, token_of _ _ _ _ (filled t c.args.w.now) (b.0 ∙ (s.0 ∙ (e.0 ∙ table))) (b.2 ∙ (λ q. view q ∷ [])) (filled_worker n m t _ worker c.requires.held))
+    let view : c.split_seat-filled.new.seat.me.0 ≡ filled t c.args.w.now = ap (λ x. x.0) s.2 ∙ (ap (λ x. giving t x.0) e.2 ∙ ((λ q. giving t (drawing (is q) (is' q))) ∙ filled_is n m t _ _ worker pass c.requires.empty)) in (
+      c.w.invariant.0,
+      token_of _ _ _ _ (filled t c.args.w.now) (b.0 ∙ (s.0 ∙ (e.0 ∙ table))) (b.2 ∙ (λ q. view q ∷ [])) (filled_worker n m t _ worker c.requires.held),
+      slots_stay _ _ _ c.args.w.now (filled t c.args.w.now) c.w.invariant.2 c.w.view_is (b.2 ∙ (λ q. view q ∷ [])) refl refl,
+    )
 
 pub invariant_of-p : goal.invariant_of-p
 invariant_of-p g c =

@@ -1,5 +1,5 @@
 -- What the proof of `Pool::leave_word` needs beyond the search.
-use Rattle.std.proofs.Common.{◌≡◌, [], ◌∷◌, sym, ap, ◌∙◌, subst, arith}
+use Rattle.std.proofs.Common.{◌≡◌, ◌≢◌, ◌⊎◌, ◌<◌, List, [], ◌∷◌, refl, sym, ap, ◌∙◌, subst, arith}
 use Rattle.std.specs.Option.{option_map}
 use Rattle.node_forest.specs.Label.{number}
 use Rattle.node_forest.specs.Members.{Occurs}
@@ -12,6 +12,7 @@ use Rattle.node_pool.specs.Boxes.{box_of, pool_terms}
 use Rattle.node_pool.specs.Tokens.{only, IsWorkerView}
 use Rattle.node_pool.proofs.Calling.{nothing_out, box_out, homed_leaving}
 use Rattle.node_pool.proofs.Seats.{seat_view, low_held, leave_at, steady-leaving, token_of, worker_again}
+use Rattle.node_pool.proofs.OwnSlots.{slots_stay}
 use Rattle.node_pool.proofs.pool.Pool.leave_word.Goals as goal
 
 pub fetch_sub-found-requires : goal.fetch_sub-found-requires
@@ -64,6 +65,7 @@ invariant_of-w g c =
           (worker_again _ _ c.args.w.now (leaving c.fetch_sub-found.result t c.args.w.now) worker (steady-leaving _ t _)
           (subst (λ (v : View). IsSane v.size v) view s.worker.0)
           (subst (λ (v : View). Fitting v.size v.holds) view s.worker.1)),
+      slots_stay _ _ _ c.args.w.now (leaving c.fetch_sub-found.result t c.args.w.now) c.w.invariant.2 c.w.view_is (c.into_badge.ensures.2 ∙ (λ q. view q ∷ [])) refl refl,
     )
 
 pub returns-clause-left : goal.returns-clause-left

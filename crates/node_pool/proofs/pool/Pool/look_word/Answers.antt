@@ -1,10 +1,11 @@
 -- What the proof of `Pool::look_word` needs beyond the search.
-use Rattle.std.proofs.Common.{◌≡◌, sym, ap, ◌∙◌, subst, arith}
+use Rattle.std.proofs.Common.{◌≡◌, [], ◌∷◌, sym, ap, ◌∙◌, subst, arith}
 use Rattle.node_forest.specs.Label.{number}
 use Rattle.pool_rule.specs.Views.{looking}
 use Rattle.node_pool.specs.Tokens.{only, IsWorkerView}
 use Rattle.node_pool.proofs.Walks.{looking-holds}
 use Rattle.node_pool.proofs.Seats.{seat_view, low_reached, look_at, steady-looking, worker_told}
+use Rattle.node_pool.proofs.OwnSlots.{slots_looked}
 use Rattle.node_pool.proofs.pool.Pool.look_word.Goals as goal
 
 pub load-found-requires : goal.load-found-requires
@@ -34,6 +35,7 @@ invariant_of-w g c =
       worker_told _ _ _ _ _ c.args.w.now _ c.into_seat-seat.result.me _ worker is (steady-looking _ g.T.Chosen.node _) told
           (c.into_badge.ensures.0 ∙ (f.0 ∙ (h.0 ∙ (ap (λ b. b.table_id) c.replace.ensures.value ∙ i.table))))
           c.into_badge.ensures.2,
+      slots_looked _ _ c.load-found.result g.T.Chosen.node _ c.args.w.now _ c.w.invariant.2 c.w.view_is is (c.into_badge.ensures.2 ∙ (λ q. told.view q ∷ [])),
     )
 
 pub returns-clause-holds : goal.returns-clause-holds

@@ -1,9 +1,10 @@
 -- What the proof of `Pool::pass` needs beyond the search.
-use Rattle.std.proofs.Common.{◌≡◌, [], ◌∷◌, sym, ap, ◌∙◌, subst, arith}
+use Rattle.std.proofs.Common.{◌≡◌, [], ◌∷◌, refl, sym, ap, ◌∙◌, subst, arith}
 use Rattle.node_pool.specs.Tokens.{IsWorkerView}
 use Rattle.node_pool.specs.Passes.{counted, uncounted}
 use Rattle.node_pool.proofs.Seats.{seat_view, token_of}
 use Rattle.node_pool.proofs.Passing.{count_at, undo_at, refused_is, part_counted_at, made_is, counted_worker, uncounted_worker}
+use Rattle.node_pool.proofs.OwnSlots.{slots_stay}
 use Rattle.node_pool.proofs.pool.Pool.pass.Goals as goal
 
 pub fetch_add-found-requires : goal.fetch_add-found-requires
@@ -47,8 +48,11 @@ invariant_of-w g c =
     let b = c.into_badge.ensures in
     let more = c.if-found-self.true in
     let found = c.fetch_add-found.result in
-    let view = s.2.view ∙ refused_is n m found _ _ c.args.w.now f.2.view is worker (omega (arith, more, pool.limited)) in
-    (c.w.invariant.0, token_of _ _ _ _ (uncounted (counted found c.args.w.now)) (b.0 ∙ (s.0 ∙ (f.0 ∙ table))) (b.2 ∙ (λ q. view q ∷ [])) (uncounted_worker n m _ (counted_worker n m found _ worker)))
+    let view = s.2.view ∙ refused_is n m found _ _ c.args.w.now f.2.view is worker (omega (arith, more, pool.limited)) in (
+      c.w.invariant.0,
+      token_of _ _ _ _ (uncounted (counted found c.args.w.now)) (b.0 ∙ (s.0 ∙ (f.0 ∙ table))) (b.2 ∙ (λ q. view q ∷ [])) (uncounted_worker n m _ (counted_worker n m found _ worker)),
+      slots_stay _ _ _ c.args.w.now (uncounted (counted found c.args.w.now)) c.w.invariant.2 c.w.view_is (b.2 ∙ (λ q. view q ∷ [])) refl refl,
+    )
 
 pub split_seat-made-requires : goal.split_seat-made-requires
 split_seat-made-requires g c =
@@ -79,5 +83,8 @@ invariant_of-w-2 g c =
     let b = c.into_badge-2.ensures in
     let less = c.if-found-self.false in
     let found = c.fetch_add-found.result in
-    let view = ap (λ x. x.0) s.2 ∙ made_is n m found _ _ c.args.w.now f.2.view is worker (omega (arith, less, pool.limited)) in
-    (c.w.invariant.0, token_of _ _ _ _ (counted found c.args.w.now) (b.0 ∙ (s.0 ∙ (f.0 ∙ table))) (b.2 ∙ (λ q. view q ∷ [])) (counted_worker n m found _ worker))
+    let view = ap (λ x. x.0) s.2 ∙ made_is n m found _ _ c.args.w.now f.2.view is worker (omega (arith, less, pool.limited)) in (
+      c.w.invariant.0,
+      token_of _ _ _ _ (counted found c.args.w.now) (b.0 ∙ (s.0 ∙ (f.0 ∙ table))) (b.2 ∙ (λ q. view q ∷ [])) (counted_worker n m found _ worker),
+      slots_stay _ _ _ c.args.w.now (counted found c.args.w.now) c.w.invariant.2 c.w.view_is (b.2 ∙ (λ q. view q ∷ [])) refl refl,
+    )

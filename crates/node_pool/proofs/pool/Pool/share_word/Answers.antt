@@ -1,8 +1,10 @@
 -- What the proof of `Pool::share_word` needs beyond the search.
-use Rattle.std.proofs.Common.{◌≡◌, sym, ap, ◌∙◌, subst, arith}
+use Rattle.std.proofs.Common.{◌≡◌, [], ◌∷◌, sym, ap, ◌∙◌, subst, arith}
 use Rattle.node_forest.specs.Label.{number}
+use Rattle.pool_rule.specs.Views.{View, sharing}
 use Rattle.node_pool.specs.Tokens.{IsWorkerView}
 use Rattle.node_pool.proofs.Seats.{seat_view, low_stands, share_at, steady-sharing, worker_told}
+use Rattle.node_pool.proofs.OwnSlots.{slots_stay}
 use Rattle.node_pool.proofs.pool.Pool.share_word.Goals as goal
 
 pub fetch_add-requires : goal.fetch_add-requires
@@ -32,4 +34,5 @@ invariant_of-w g c =
       worker_told _ _ _ _ _ c.args.w.now _ c.into_seat-seat.result.me _ worker is (steady-sharing _ _) told
           (c.into_badge.ensures.0 ∙ (f.0 ∙ (h.0 ∙ (ap (λ b. b.table_id) c.replace.ensures.value ∙ i.table))))
           c.into_badge.ensures.2,
+      slots_stay _ _ _ c.args.w.now (sharing g.T.Chosen.node c.into_seat-seat.result.me.0) c.w.invariant.2 c.w.view_is (c.into_badge.ensures.2 ∙ (λ q. told.view q ∷ [])) (ap (λ (v : View). v.used) is) (ap (λ (v : View). v.unused) is),
     )
