@@ -14,6 +14,8 @@ mod outlet;
 mod passes;
 mod plays;
 mod pool;
+#[cfg(test)]
+mod slot_tests;
 mod slots;
 mod start;
 #[cfg(test)]
