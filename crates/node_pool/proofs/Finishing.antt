@@ -1,5 +1,5 @@
 -- Edges that are left one after another, from the top of a tree down.
-use Rattle.std.proofs.Common.{◌≡◌, ℕ, zero, suc, ◌+◌, ◌*◌, ◌<◌, ◌≤◌, eqb, Bool, List, [], ◌∷◌, ◌++◌, length, sum_by, take, get_or, refl, sym, ap, subst, ◌∙◌, arith, eq-eqb, ne_eqb}
+use Rattle.std.proofs.Common.{◌≡◌, ℕ, zero, suc, ◌+◌, ◌*◌, ◌<◌, ◌≤◌, eqb, Bool, List, [], ◌∷◌, ◌++◌, length, sum_by, take, get_or, refl, sym, ap, subst, ◌∙◌, arith, eq-eqb, ne_eqb, append_assoc}
 use Rattle.std.specs.List.{All, Contains}
 use Rattle.std.proofs.lemmas.List.{take_all}
 use Rattle.std.proofs.lemmas.List.Elements.{All-append, Contains-get_or}
@@ -16,9 +16,9 @@ use Rattle.pool_rule.specs.Trades.{HasHolds, Trades, IsWithin, itself, below}
 use Rattle.pool_rule.specs.Views.{View}
 use Rattle.pool_rule.proofs.Trades.{trade}
 use Rattle.node_pool.specs.declared.calls.Left.{Left}
-use Rattle.node_pool.specs.declared.calls.Left.TheVariants.{Last}
-use Rattle.node_pool.specs.Answers.{freed, left_by}
-use Rattle.node_pool.specs.Finishes.{IsFinished}
+use Rattle.node_pool.specs.declared.calls.Left.TheVariants.{Shared, Last}
+use Rattle.node_pool.specs.Answers.{freed, number_back, left_by}
+use Rattle.node_pool.specs.Finishes.{IsNumberIn, IsFinished}
 
 times-append : (n : ℕ) (a b : List Node) → times n (a ++ b) ≡ times n a + times n b
 times-append n [] b = omega arith
@@ -39,23 +39,35 @@ lone_but-append a b (n ∷ ns) =
     ap (lone_but b) here ∙ (r ∙ sym both))
 
 -- ---- what the worker knows
+back_within : (a : Left) (e : Node) → All (IsNumberIn e) (number_back a e)
+back_within Shared e k d lt = absurd (omega (arith, lt))
+back_within Last e zero d lt = (e, itself, refl)
+back_within Last e (suc k) d lt = absurd (omega (arith, lt))
+
 pub finished_first : (a : Left) (e : Node) (v w : View) → w ≡ left_by a e v → IsFinished e v w
 finished_first a e v w is = record {
   later = [];
   within = λ k d lt. absurd (omega (arith, lt));
-  view = is ∙ (λ q. record v { holds = (sym is q).holds; lone = lone_but (e ∷ []) v.lone });
+  back = number_back a e;
+  numbers = back_within a e;
+  view = is ∙ (λ q. record v { holds = (sym is q).holds; returned = v.returned ++ number_back a e; lone = lone_but (e ∷ []) v.lone });
 }
 
 all_below : (e c : Node) (ts : List Node) → Contains (children e) c → All (λ (t : Node). IsWithin t c) ts → All (λ (t : Node). IsWithin t e) (c ∷ ts)
 all_below e c ts child all zero d lt = below child itself
 all_below e c ts child all (suc k) d lt = below child (all k d (omega (arith, lt)))
 
+numbers_below : (e c : Node) (ns : List ℕ) → Contains (children e) c → All (IsNumberIn c) ns → All (IsNumberIn e) ns
+numbers_below e c ns child all k d lt = let r = all k d lt in (r.0, below child r.1, r.2)
+
 finished_more : (e c : Node) (v w x : View) → Contains (children e) c → IsFinished e v w → IsFinished c w x → IsFinished e v x
 finished_more e c v w x child a b = record {
   later = a.later ++ c ∷ b.later;
   within = All-append (λ (t : Node). IsWithin t e) a.later (c ∷ b.later) a.within (all_below e c b.later child b.within);
-  view = b.view ∙ ((λ q. record (a.view q) { holds = x.holds; lone = lone_but (c ∷ b.later) (a.view q).lone })
-      ∙ ap (λ (ns : List ℕ). record v { holds = x.holds; lone = ns }) (lone_but-append (e ∷ a.later) (c ∷ b.later) v.lone));
+  back = a.back ++ b.back;
+  numbers = All-append (IsNumberIn e) a.back b.back a.numbers (numbers_below e c b.back child b.numbers);
+  view = b.view ∙ ((λ q. record (a.view q) { holds = x.holds; returned = (a.view q).returned ++ b.back; lone = lone_but (c ∷ b.later) (a.view q).lone })
+      ∙ (λ q. record v { holds = x.holds; returned = append_assoc v.returned a.back b.back q; lone = lone_but-append (e ∷ a.later) (c ∷ b.later) v.lone q }));
 }
 
 -- ---- the edges one by one

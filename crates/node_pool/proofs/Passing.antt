@@ -25,7 +25,7 @@ module _ (numbers most : ℕ) where
   Worker v = IsWorkerView numbers most v
 
   pub bare_pass : (w : View) → IsPassView numbers most w → IsBare w
-  bare_pass w i = subst IsBare (sym i.is) (record { room = refl; taken = refl; full = refl; over = refl; made = refl; ended = refl; counts = refl; joined = refl; unused = refl; used = refl; away = refl })
+  bare_pass w i = subst IsBare (sym i.is) (record { room = refl; taken = refl; full = refl; returned = refl; over = refl; made = refl; ended = refl; counts = refl; joined = refl; unused = refl; used = refl; away = refl })
 
   -- the parts of a pass's view that are numbers
   pub room_pass : (w : View) → IsPassView numbers most w → w.room ≡ 1

@@ -55,5 +55,10 @@ abbrev pub freed : Left → Node → List Node
 freed Shared t = []
 freed Last t = children t
 
+-- the number that it returns
+abbrev pub number_back : Left → Node → List ℕ
+number_back Shared t = []
+number_back Last t = number t ∷ []
+
 abbrev pub left_by : Left → Node → View → View
-left_by answer t v = record v { holds = without (number t) v.holds ++ freed answer t; lone = lone_but (t ∷ []) v.lone }
+left_by answer t v = record v { holds = without (number t) v.holds ++ freed answer t; returned = v.returned ++ number_back answer t; lone = lone_but (t ∷ []) v.lone }

@@ -22,9 +22,9 @@ use Rattle.count_core.proofs.Counting.{unheld}
 use Rattle.count_core.proofs.Moves.{sound_of}
 use Rattle.count_core.specs.Views.{without, without_all, passed_on, AreHeld}
 use Rattle.pool_rule.specs.Notes.{Count, Tally, Use, use_of, uses_of, unused_after, lone_but}
-use Rattle.pool_rule.specs.Views.{View, taking, noting, tried, sharing, leaving, releasing, homing, looking, count_of, tally_of, counting_below, counting_over, counting, ending, undoing, narrower, part_of, parting, empty_pass, handing, giving, without_node, holder, drawing, merged, first_view, spent}
+use Rattle.pool_rule.specs.Views.{View, taking, noting, tried, sharing, releasing, homing, looking, count_of, tally_of, counting_below, counting_over, counting, ending, undoing, narrower, part_of, parting, empty_pass, handing, giving, without_node, holder, drawing, merged, first_view, spent}
 use Rattle.pool_rule.specs.Rules.{holds_of, world, IsSane, Ruled}
-use Rattle.pool_rule.specs.Plays.{AreOneEach, Told, HasLeft, HasHomed, taken, shared, left, homed, looked}
+use Rattle.pool_rule.specs.Plays.{AreOneEach, Told, HasLeft, taken, shared, left, homed, looked}
 use Rattle.pool_rule.specs.Pools.{Terms, IsFresh, IsCalled, Member, IsAlone, IsReached, IsBare, slot_times, IsLive, Slotted, Kept}
 use Rattle.pool_rule.specs.Trades.{HasHolds, Stands}
 use Rattle.pool_rule.proofs.Allowed.{Moved, takes_allowed, shares_allowed, leaves_allowed, looks_allowed}
@@ -511,10 +511,10 @@ module _ {S : Type 0} (p : Terms S) (id : ℕ) where
       }) (splits_allowed p.numbers id v room slots fits less)
 
   bare_pass : (v : View) → IsBare (empty_pass v)
-  bare_pass v = record { room = refl; taken = refl; full = refl; over = refl; made = refl; ended = refl; counts = refl; joined = refl; unused = refl; used = refl; away = refl }
+  bare_pass v = record { room = refl; taken = refl; full = refl; returned = refl; over = refl; made = refl; ended = refl; counts = refl; joined = refl; unused = refl; used = refl; away = refl }
 
   bare_holder : (t : Node) (v : View) → IsBare (holder t v)
-  bare_holder t v = record { room = refl; taken = refl; full = refl; over = refl; made = refl; ended = refl; counts = refl; joined = refl; unused = refl; used = refl; away = refl }
+  bare_holder t v = record { room = refl; taken = refl; full = refl; returned = refl; over = refl; made = refl; ended = refl; counts = refl; joined = refl; unused = refl; used = refl; away = refl }
 
   -- a pass becomes a token of its own, empty or with a direct hold
   pub parts : (v : View) → 0 < v.spare → 0 < v.passes → length v.holds < v.room → Splits {S = S} (Kept p) id v (parting v) (empty_pass v)

@@ -1,5 +1,5 @@
 -- Changes of an edge are a step that the pool's rule allows, from what those who use the pool know of their holds.
-use Rattle.std.proofs.Common.{◌≡◌, inl, inr, ⊎_elim, ℕ, zero, suc, ◌+◌, ◌<◌, ◌≤◌, List, [], ◌∷◌, ◌++◌, length, take, drop, get_or, sum_by, refl, sym, ◌∙◌, ap, subst, arith, length-append}
+use Rattle.std.proofs.Common.{◌≡◌, inl, inr, ⊎_elim, ℕ, zero, suc, ◌<◌, List, [], ◌∷◌, ◌++◌, length, take, drop, sym, ◌∙◌, subst, arith, length-append}
 use Rattle.std.specs.Prelude.{Some}
 use Rattle.std.proofs.lemmas.List.Sums.{sum_by-append}
 use mathlib.Core.Option.{none, some}
@@ -10,26 +10,25 @@ use Rattle.node_forest.specs.Label.{Node, number}
 use Rattle.node_forest.specs.Members.{In, Occurs}
 use Rattle.node_forest.specs.Counts.{first}
 use Rattle.node_forest.specs.Paths.{child_of}
-use Rattle.node_forest.proofs.Members.{in_left, in_right, in_split, root_occurs, child_occurs}
+use Rattle.node_forest.proofs.Members.{in_left, in_split, root_occurs, child_occurs}
 use Rattle.count_core.specs.Views.{without}
 use Rattle.count_core.specs.Marks as core
-use Rattle.count_core.proofs.Edits.{Shuffled, edit_lone, child_in}
+use Rattle.count_core.proofs.Edits.{edit_lone, child_in}
 use Rattle.count_core.proofs.Whole.{edits_loose, edits_numbers}
 use Rattle.count_core.proofs.Around.{in_without}
 use Rattle.node_edges.specs.declared.change.Change.{Change}
 use Rattle.node_edges.specs.Changes as edges
 use Rattle.pool_rule.specs.Views.{View}
-use Rattle.pool_rule.specs.Rules.{Ruled}
 use Rattle.pool_rule.specs.Plays.{AreOneEach}
 use Rattle.pool_rule.specs.Pools.{Terms, Kept}
 use Rattle.pool_rule.specs.Trades.{HasHolds, Trades}
 use Rattle.pool_rule.specs.Marks.{Leads, CanChange, IsLonePath}
-use Rattle.pool_rule.specs.EdgeMarks.{node_at, core_change, core_changes, AreFirst, HasNew, all_new, CanEdit, EdgeChanged, edge_changed}
+use Rattle.pool_rule.specs.EdgeMarks.{node_at, core_change, core_changes, AreFirst, HasNew, all_new, CanEdit, edge_changed}
 use Rattle.pool_rule.proofs.Door.{held-in, one_each-without}
 use Rattle.pool_rule.proofs.Holds.{first_only}
 use Rattle.pool_rule.proofs.Steps.{first_held, same_seen}
 use Rattle.pool_rule.proofs.MarkSteps.{ones, leads_lone, marks}
-use Rattle.pool_rule.proofs.EdgeMarks.{fits_edit, same_edit, fit_edits, same_edits, never_core, weighs-first, weighs-unpulled, weighs-edit, mark-trades}
+use Rattle.pool_rule.proofs.EdgeMarks.{fits_edit, same_edit, fit_edits, same_edits, never_core, weighs-first, weighs-edit, mark-trades}
 
 -- ---- edges that are held by weight come first with their numbers
 first-by : (hs es : List Node) → AreOneEach hs → HasHolds hs es → AreFirst es hs

@@ -1,6 +1,6 @@
 -- Changes in place are a step of the count rule on the table's world, and keep the rule.
-use Rattle.std.proofs.Common.{◌≡◌, ◌≢◌, ◌⊎◌, inl, inr, ⊎_elim, ℕ, zero, suc, ◌+◌, ◌<◌, ◌≤◌, true, List, [], ◌∷◌, ◌++◌, length, map, get_or, set, take, refl, sym, ◌∙◌, ap, subst, arith, length-set}
-use Rattle.std.specs.Prelude.{Option, Some, None}
+use Rattle.std.proofs.Common.{◌≡◌, ◌≢◌, ◌⊎◌, inl, inr, ⊎_elim, ℕ, zero, suc, ◌<◌, ◌≤◌, true, List, [], ◌∷◌, ◌++◌, length, map, get_or, set, take, refl, sym, ◌∙◌, ap, subst, arith, length-set}
+use Rattle.std.specs.Prelude.{Option, Some}
 use mathlib.Core.Option.{none, some}
 use lib.ListN.{get_elem?}
 use Rattle.atomic_table.proofs.Lists.{at_set, set_here}
@@ -8,23 +8,23 @@ use Rattle.atomic_table.specs.Table.{State, Me, keeps, step, stepped, Allows}
 use Rattle.node_forest.specs.declared.kind.Kind.TheVariants.{Flat, External, Branch}
 use Rattle.node_forest.specs.Forest.{children}
 use Rattle.node_forest.specs.Label.{Node, number}
-use Rattle.node_forest.specs.Members.{In, Occurs}
+use Rattle.node_forest.specs.Members.{Occurs}
 use Rattle.node_forest.specs.Counts.{first}
 use Rattle.node_forest.specs.Paths.{child_of}
 use Rattle.node_forest.proofs.Maps.{trees-forest}
 use Rattle.node_forest.proofs.Members.{root_occurs, child_occurs, below_in, occurs_split, occurs_left, occurs_right, alone_in, alone_out}
 use Rattle.count_core.specs.Views.{without}
-use Rattle.count_core.specs.Marks.{Change, resize, exchange, Site, site, branch_of, resized, unpulled, edges_after, edit, raised, Fits, FitsAt, edits, FitEach, LonePath, FitsRoot, holds_of, edited_holds, numbers_on}
+use Rattle.count_core.specs.Marks.{Change, resize, exchange, Site, site, branch_of, resized, unpulled, edges_after, edit, FitsAt, edits, FitEach, LonePath, FitsRoot, edited_holds, numbers_on}
 use Rattle.node_forest.specs.Sides.{outgoing}
-use Rattle.count_core.specs.Steps.{mark, Does, roots, word_at, holds_at, changed, with_views, after}
-use Rattle.count_core.proofs.Edits.{Shuffled, shuffled_exchange, shuffled_without, edit_lone, child_in}
+use Rattle.count_core.specs.Steps.{mark, Does, roots, word_at, holds_at}
+use Rattle.count_core.proofs.Edits.{shuffled_exchange, shuffled_without, edit_lone, child_in}
 use Rattle.pool_rule.specs.Views.{View}
 use Rattle.pool_rule.specs.Rules.{holds_of as held_by, world, Among, IsSane, Ruled, Narrow}
 use Rattle.pool_rule.specs.Notes.{use_of}
 use Rattle.pool_rule.specs.Pools.{Terms, Member, AreBare, IsAlone, AreLone, Slotted, Kept}
 use Rattle.pool_rule.specs.Marks.{Leads, marking, CanChange, IsLonePath, marked, KeepsNodes}
-use Rattle.pool_rule.proofs.Allowed.{Moved, told}
-use Rattle.pool_rule.proofs.Holds.{child_below, below_child, occurs_without}
+use Rattle.pool_rule.proofs.Allowed.{told}
+use Rattle.pool_rule.proofs.Holds.{child_below, below_child}
 use Rattle.pool_rule.proofs.Pools.{told_after, roots_set}
 use Rattle.pool_rule.proofs.Slots.{slotted_same, same_step}
 use Rattle.pool_rule.proofs.Tallies.{tallied_step, same_tally}

@@ -34,7 +34,7 @@ bare_append views w b here j u at zero_ = ⊎_elim
     (at_snoc views w u j at)
 
 pub bare_spent : (w : View) → IsBare (spent w)
-bare_spent w = record { room = refl; taken = refl; full = refl; over = refl; made = refl; ended = refl; counts = refl; joined = refl; unused = refl; used = refl; away = refl }
+bare_spent w = record { room = refl; taken = refl; full = refl; returned = refl; over = refl; made = refl; ended = refl; counts = refl; joined = refl; unused = refl; used = refl; away = refl }
 
 module _ {S : Type 0} where
   -- the count rule doesn't see the slots

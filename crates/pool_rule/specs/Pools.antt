@@ -59,6 +59,7 @@ pub record IsBare (v : View) : Type 0 where
   pub room : v.room ≡ v.passes
   pub taken : v.taken ≡ []
   pub full : v.full ≡ []
+  pub returned : v.returned ≡ []
   pub over : v.over ≡ 0
   pub made : v.made ≡ 0
   pub ended : v.ended ≡ 0

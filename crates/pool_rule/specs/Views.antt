@@ -20,6 +20,8 @@ pub record View : Type 0 where
   pub taken : List ℕ
   -- the numbers that its takes found not 0
   pub full : List ℕ
+  -- the numbers that its last leaves returned, which found the word 1
+  pub returned : List ℕ
   -- the live passes that are its own
   pub passes : ℕ
   -- the most live passes that there should be
@@ -51,6 +53,7 @@ blank room size limit spare = record {
   size = size;
   taken = [];
   full = [];
+  returned = [];
   passes = 0;
   limit = limit;
   over = 0;
@@ -91,9 +94,13 @@ tried found t v = if found == 0 then taking t v else noting (number t) v
 abbrev pub sharing : Node → View → View
 sharing t v = record v { holds = v.holds ++ t ∷ []; shares = v.shares + 1; lone = lone_but (t ∷ []) v.lone }
 
+-- the number that a leave returns: that of a node whose word it found to be 1
+abbrev pub returned_by : ℕ → Node → List ℕ
+returned_by found t = if found == 1 then number t ∷ [] else []
+
 -- after a leave that found this word
 abbrev pub leaving : ℕ → Node → View → View
-leaving found t v = record v { holds = without (number t) v.holds ++ passed_on found (Some t); lone = lone_but (t ∷ []) v.lone }
+leaving found t v = record v { holds = without (number t) v.holds ++ passed_on found (Some t); returned = v.returned ++ returned_by found t; lone = lone_but (t ∷ []) v.lone }
 
 -- the same where the slot of an external is out until its box was called
 abbrev pub releasing : ℕ → Node → View → View
@@ -176,6 +183,7 @@ merged v w = record v {
   room = v.room + w.room;
   taken = v.taken ++ w.taken;
   full = v.full ++ w.full;
+  returned = v.returned ++ w.returned;
   passes = v.passes + w.passes;
   over = v.over + w.over;
   spare = v.spare + w.spare;
@@ -194,6 +202,6 @@ spent w = blank 0 w.size w.limit 0
 abbrev pub coded_view : Coded View
 coded_view =
     coded_via
-    (coded× (coded_list coded_node) (coded× coded_ℕ (coded× coded_ℕ (coded× (coded_list coded_ℕ) (coded× (coded_list coded_ℕ) (coded× coded_ℕ (coded× coded_ℕ (coded× coded_ℕ (coded× coded_ℕ (coded× coded_ℕ (coded× coded_ℕ (coded× (coded_list coded_count) (coded× (coded_list coded_tally) (coded× coded_ℕ (coded× (coded_list coded_look) (coded× (coded_list coded_ℕ) (coded× (coded_list coded_ℕ) (coded× (coded_list coded_use) (coded_list coded_use)))))))))))))))))))
-    (λ (v : View). (v.holds, (v.room, (v.size, (v.taken, (v.full, (v.passes, (v.limit, (v.over, (v.spare, (v.made, (v.ended, (v.counts, (v.joined, (v.shares, (v.looks, (v.lone, (v.unused, (v.used, v.away)))))))))))))))))))
-    (λ x y e i. record { holds = (e i).0; room = (e i).1.0; size = (e i).1.1.0; taken = (e i).1.1.1.0; full = (e i).1.1.1.1.0; passes = (e i).1.1.1.1.1.0; limit = (e i).1.1.1.1.1.1.0; over = (e i).1.1.1.1.1.1.1.0; spare = (e i).1.1.1.1.1.1.1.1.0; made = (e i).1.1.1.1.1.1.1.1.1.0; ended = (e i).1.1.1.1.1.1.1.1.1.1.0; counts = (e i).1.1.1.1.1.1.1.1.1.1.1.0; joined = (e i).1.1.1.1.1.1.1.1.1.1.1.1.0; shares = (e i).1.1.1.1.1.1.1.1.1.1.1.1.1.0; looks = (e i).1.1.1.1.1.1.1.1.1.1.1.1.1.1.0; lone = (e i).1.1.1.1.1.1.1.1.1.1.1.1.1.1.1.0; unused = (e i).1.1.1.1.1.1.1.1.1.1.1.1.1.1.1.1.0; used = (e i).1.1.1.1.1.1.1.1.1.1.1.1.1.1.1.1.1.0; away = (e i).1.1.1.1.1.1.1.1.1.1.1.1.1.1.1.1.1.1 })
+    (coded× (coded_list coded_node) (coded× coded_ℕ (coded× coded_ℕ (coded× (coded_list coded_ℕ) (coded× (coded_list coded_ℕ) (coded× coded_ℕ (coded× coded_ℕ (coded× coded_ℕ (coded× coded_ℕ (coded× coded_ℕ (coded× coded_ℕ (coded× (coded_list coded_count) (coded× (coded_list coded_tally) (coded× coded_ℕ (coded× (coded_list coded_look) (coded× (coded_list coded_ℕ) (coded× (coded_list coded_ℕ) (coded× (coded_list coded_use) (coded× (coded_list coded_use) (coded_list coded_ℕ))))))))))))))))))))
+    (λ (v : View). (v.holds, (v.room, (v.size, (v.taken, (v.full, (v.passes, (v.limit, (v.over, (v.spare, (v.made, (v.ended, (v.counts, (v.joined, (v.shares, (v.looks, (v.lone, (v.unused, (v.used, (v.away, v.returned))))))))))))))))))))
+    (λ x y e i. record { holds = (e i).0; room = (e i).1.0; size = (e i).1.1.0; taken = (e i).1.1.1.0; full = (e i).1.1.1.1.0; passes = (e i).1.1.1.1.1.0; limit = (e i).1.1.1.1.1.1.0; over = (e i).1.1.1.1.1.1.1.0; spare = (e i).1.1.1.1.1.1.1.1.0; made = (e i).1.1.1.1.1.1.1.1.1.0; ended = (e i).1.1.1.1.1.1.1.1.1.1.0; counts = (e i).1.1.1.1.1.1.1.1.1.1.1.0; joined = (e i).1.1.1.1.1.1.1.1.1.1.1.1.0; shares = (e i).1.1.1.1.1.1.1.1.1.1.1.1.1.0; looks = (e i).1.1.1.1.1.1.1.1.1.1.1.1.1.1.0; lone = (e i).1.1.1.1.1.1.1.1.1.1.1.1.1.1.1.0; unused = (e i).1.1.1.1.1.1.1.1.1.1.1.1.1.1.1.1.0; used = (e i).1.1.1.1.1.1.1.1.1.1.1.1.1.1.1.1.1.0; away = (e i).1.1.1.1.1.1.1.1.1.1.1.1.1.1.1.1.1.1.0; returned = (e i).1.1.1.1.1.1.1.1.1.1.1.1.1.1.1.1.1.1.1 })

@@ -1,7 +1,10 @@
 -- What the proof of `Pool::finish_edge` needs beyond the search.
 use Rattle.std.proofs.Common.{rules, ◌<◌, length, arith}
-use Rattle.node_pool.proofs.Finishing.{partway_next, held_next, room_next, fewer_below}
+use Rattle.node_pool.proofs.Finishing.{partway_first, partway_next, held_next, room_next, fewer_below}
 use Rattle.node_pool.proofs.pool.Pool.+finish_edge.Goals as goal
+
+pub loop-child-init : goal.loop-child-init
+loop-child-init g t c = partway_first c.args.edge.now _ c.leave.result c.args.w.now c.leave.new.w c.leave.ensures.left c.leave.ensures.traded c.in-Last.is c.edges_of-edges.ensures.edges
 
 pub finish_edge-requires : goal.finish_edge-requires
 finish_edge-requires g t c κs within =
