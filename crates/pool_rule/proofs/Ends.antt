@@ -1,18 +1,20 @@
 -- A token with all the room leaves none to the others, so what it doesn't hold isn't held.
 use Rattle.std.proofs.Common.{◌≡◌, ◌≢◌, ⊎_elim, ◌+◌, ℕ, suc, ◌<◌, ◌≤◌, List, [], ◌∷◌, length, map, sum_by, get_or, set, refl, sym, ◌∙◌, ap, subst, arith}
-use Rattle.std.proofs.lemmas.List.{map-set}
+use Rattle.std.proofs.lemmas.List.{map-set, set-set}
 use Rattle.std.proofs.lemmas.List.Sums.{sum_by-append}
 use mathlib.Core.Option.{some}
 use mathlib.Core.Logic.{dite}
 use native.Mathlib.Decide.{ℕ_discrete}
 use lib.ListN.{get_elem?}
 use Rattle.atomic_table.specs.Table.{State}
-use Rattle.atomic_table.proofs.Lists.{at_set, set_else}
+use Rattle.atomic_table.proofs.Lists.{at_set, set_else, set_again}
 use Rattle.node_forest.specs.Label.{Node}
+use Rattle.node_forest.specs.Members.{Occurs}
 use Rattle.count_core.specs.Holders.{holders}
 use Rattle.count_core.specs.Steps.{roots}
 use Rattle.pool_rule.specs.Views.{View, blank, spent}
 use Rattle.pool_rule.specs.Rules.{holds_of, rooms, passes, spares, Among}
+use Rattle.pool_rule.proofs.Pools.{roots_set}
 use Rattle.pool_rule.proofs.Taken.{view_at}
 use Rattle.pool_rule.specs.Notes.{Tally}
 use Rattle.pool_rule.specs.Pools.{Terms, IsBare, IsKnown, made_by, ended_by, Kept}
@@ -37,9 +39,10 @@ rooms_below : (views : List View) → ((id : ℕ) (v : View) → get_elem? views
 rooms_below [] h = omega arith
 rooms_below (x ∷ xs) h = let a = h 0 x refl in let b = rooms_below xs (λ id v at. h (suc id) v at) in omega arith
 
-pub ends : {S : Type 0} (p : Terms S) (s : State S View) (id : ℕ) (v : View) → Kept p s → get_elem? s.views id ≡ some v → v.spare ≡ p.workers → v.passes ≡ 0 → get_or s.words p.numbers 0 ≡ 0 → v.holds ≡ []
-    → (n : ℕ) → n < p.numbers → get_or s.words n 0 ≡ 0
-ends p s id v r at all own idle_ nothing n l =
+-- where one token has all shares and no pass is live, the others hold nothing
+pub gone_else : {S : Type 0} (p : Terms S) (s : State S View) (id : ℕ) (v : View) → Kept p s → get_elem? s.views id ≡ some v → v.spare ≡ p.workers → v.passes ≡ 0 → get_or s.words p.numbers 0 ≡ 0
+    → roots (map holds_of (set s.views id (spent v))) ≡ []
+gone_else p s id v r at all own idle_ =
     let k : ℕ = p.numbers in
     let count = r.counted in
     let z : View = spent v in
@@ -53,7 +56,26 @@ ends p s id v r at all own idle_ nothing n l =
     let mine = sane_at k s.views id v count.sane at in
     let sane = sane_set k s.views id z count.sane (record { size = mine.size; roomy = omega arith; narrow = λ t o. absurd o; limited = mine.limited; fewer = omega arith }) in
     let b = length-rooms k others sane in
-    let gone : roots (map holds_of others) ≡ [] = empty_list (roots (map holds_of others)) (omega arith) in
+    empty_list (roots (map holds_of others)) (omega arith)
+
+-- so what stands in any tree stands in its trees
+pub held_here : {S : Type 0} (p : Terms S) (s : State S View) (id : ℕ) (v : View) → Kept p s → get_elem? s.views id ≡ some v → v.spare ≡ p.workers → v.passes ≡ 0 → get_or s.words p.numbers 0 ≡ 0
+    → (x : Node) → Occurs x (roots (map holds_of s.views)) → Occurs x v.holds
+held_here p s id v r at all own idle_ x o =
+    let back : set (set s.views id (spent v)) id v ≡ s.views = set-set s.views id (spent v) v ∙ set_again s.views id v at in
+    ⊎_elim
+    (λ h. h)
+    (λ h. absurd (subst (λ (ts : List Node). Occurs x ts) (gone_else p s id v r at all own idle_) h))
+    (roots_set (set s.views id (spent v)) id v x (subst (λ (l : List View). Occurs x (roots (map holds_of l))) (sym back) o))
+
+pub ends : {S : Type 0} (p : Terms S) (s : State S View) (id : ℕ) (v : View) → Kept p s → get_elem? s.views id ≡ some v → v.spare ≡ p.workers → v.passes ≡ 0 → get_or s.words p.numbers 0 ≡ 0 → v.holds ≡ []
+    → (n : ℕ) → n < p.numbers → get_or s.words n 0 ≡ 0
+ends p s id v r at all own idle_ nothing n l =
+    let k : ℕ = p.numbers in
+    let count = r.counted in
+    let z : View = spent v in
+    let others : List View = set s.views id z in
+    let gone = gone_else p s id v r at all own idle_ in
     let same_ : set (map holds_of s.views) id [] ≡ map holds_of s.views =
     ap (set (map holds_of s.views) id) (sym (held_at s.views id v at ∙ nothing)) ∙ set_same (map holds_of s.views) id [] in
     let same : roots (map holds_of s.views) ≡ [] = ap roots (sym (map-set holds_of s.views id z ∙ same_)) ∙ gone in

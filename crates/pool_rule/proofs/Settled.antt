@@ -16,11 +16,12 @@ use Rattle.count_core.specs.Steps.{roots}
 use Rattle.count_core.proofs.Moves.{sound_of}
 use Rattle.count_core.proofs.Sums.{sum_some}
 use Rattle.pool_rule.specs.Notes.{Use}
-use Rattle.pool_rule.specs.Pools.{Terms, Member, Has, IsFresh, IsCalled, IsHome, IsLive, IsBare, slot_of, used_of, away_of, Kept}
+use Rattle.pool_rule.specs.Pools.{Terms, Member, Has, IsFresh, IsCalled, IsHome, IsLive, IsBare, slot_of, used_of, away_of, made_by, ended_by, Kept}
 use Rattle.pool_rule.specs.Rules.{holds_of, world}
 use Rattle.pool_rule.specs.Views.{View}
 use Rattle.pool_rule.specs.Ends.{IsSettled}
-use Rattle.pool_rule.proofs.Ends.{bare_else}
+use Rattle.pool_rule.proofs.Ends as end
+use Rattle.pool_rule.proofs.Ends.{bare_else, held_here}
 use Rattle.pool_rule.proofs.Slots.{one_use}
 use Rattle.pool_rule.proofs.Steps.{word_some}
 use Rattle.pool_rule.proofs.Taken.{view_at}
@@ -52,6 +53,17 @@ home_or_out (h ∷ hs) (suc j) l = home_or_out hs j (omega (arith, l))
 -- a number that stands in a token's trees is in use
 pub in_use : {S : Type 0} (p : Terms S) (s : State S View) (id : ℕ) (v : View) → Kept p s → get_elem? s.views id ≡ some v → (x : Node) → Occurs x v.holds → get_or s.words (number x) 0 ≢ 0
 in_use p s id v r at x o e = let some_ = word_some p.numbers s id v r.counted at x o in omega (arith, some_, e)
+
+-- where one token is all workers and ended the passes that it made, a number in use stands in its trees
+pub in_use_held : {S : Type 0} (p : Terms S) (s : State S View) (id : ℕ) (v : View) → Kept p s → get_elem? s.views id ≡ some v → v.spare ≡ p.workers → v.passes ≡ 0 → made_by v ≡ ended_by v
+    → (n : ℕ) → n < p.numbers → get_or s.words n 0 ≢ 0 → (x : Node) × Occurs x v.holds × (number x ≡ n)
+in_use_held p s id v r at all own ended n low some_ =
+    let c = sound_of (world p.numbers s) r.counted.sound in
+    let w = width_world p.numbers s r.counted.width in
+    let e = c.counted n (omega (arith, w, low)) in
+    let f = word_world p.numbers s n low in
+    let q = holder_node (length (world p.numbers s).words) n (roots (map holds_of s.views)) (omega (arith, e, f, some_)) in
+    (q.0, held_here p s id v r at all own (end.settled p s id v r at all ended) q.0 q.1, q.2)
 
 module _ {S : Type 0} (p : Terms S) (s : State S View) (id : ℕ) (v : View) (r : Kept p s) (at : get_elem? s.views id ≡ some v) (all : v.spare ≡ p.workers) (home : v.away ≡ []) where
   -- what tokens that are no workers don't have is this token's

@@ -63,6 +63,11 @@ pub fn idle_pools_are_empty<S>()
     ensures { (p : Terms S) (s : State S View) (id : ℕ) (v : View) → Kept p s → get_elem? s.views id ≡ some v → v.spare ≡ p.workers → v.passes ≡ 0 → made_by v ≡ ended_by v → v.holds ≡ [] → (n : ℕ) → n < p.numbers → slice_index s.words n ≡ 0 }
 {}
 
+/// Where one token has the shares of all workers and ended the passes that it made, each number in use stands in its trees.
+pub fn numbers_in_use_are_held<S>()
+    ensures { (p : Terms S) (s : State S View) (id : ℕ) (v : View) → Kept p s → get_elem? s.views id ≡ some v → v.spare ≡ p.workers → v.passes ≡ 0 → made_by v ≡ ended_by v → (n : ℕ) → n < p.numbers → slice_index s.words n ≢ 0 → (x : Node) × Occurs x v.holds × (number x ≡ n) }
+{}
+
 /// What a token that is all workers of a pool knows of the steps of all of them.
 pub fn whole_tokens_know_all_steps<S>()
     ensures { (p : Terms S) (s : State S View) (id : ℕ) (v : View) → Kept p s → get_elem? s.views id ≡ some v → v.spare ≡ p.workers → IsKnown v }

@@ -12,8 +12,8 @@ pub use edge_marks::{
     edge_changes_are_marks, edge_changes_keep_the_rule, edge_changes_trade_holds,
 };
 pub use laws::{
-    held_numbers_are_in_use, idle_pools_are_empty, passes_keep_the_rule, pools_start_ruled,
-    steps_are_the_count_rules, steps_keep_the_rule, tokens_divide, weights_tell_holds,
-    whole_tokens_know_all_boxes, whole_tokens_know_all_steps,
+    held_numbers_are_in_use, idle_pools_are_empty, numbers_in_use_are_held, passes_keep_the_rule,
+    pools_start_ruled, steps_are_the_count_rules, steps_keep_the_rule, tokens_divide,
+    weights_tell_holds, whole_tokens_know_all_boxes, whole_tokens_know_all_steps,
 };
 pub use marks::{marks_are_the_count_rules, marks_keep_the_rule};

@@ -3,9 +3,9 @@ use crate::edge_marks::{
     edge_changes_are_marks, edge_changes_keep_the_rule, edge_changes_trade_holds,
 };
 use crate::laws::{
-    held_numbers_are_in_use, idle_pools_are_empty, passes_keep_the_rule, pools_start_ruled,
-    steps_are_the_count_rules, steps_keep_the_rule, tokens_divide, weights_tell_holds,
-    whole_tokens_know_all_boxes, whole_tokens_know_all_steps,
+    held_numbers_are_in_use, idle_pools_are_empty, numbers_in_use_are_held, passes_keep_the_rule,
+    pools_start_ruled, steps_are_the_count_rules, steps_keep_the_rule, tokens_divide,
+    weights_tell_holds, whole_tokens_know_all_boxes, whole_tokens_know_all_steps,
 };
 use crate::marks::{marks_are_the_count_rules, marks_keep_the_rule};
 
@@ -16,6 +16,7 @@ fn laws_hold_of_slots_of_a_type(_rt: HostRuntime) {
     steps_keep_the_rule::<Option<u64>>();
     tokens_divide::<Option<u64>>();
     idle_pools_are_empty::<Option<u64>>();
+    numbers_in_use_are_held::<Option<u64>>();
     whole_tokens_know_all_steps::<Option<u64>>();
     whole_tokens_know_all_boxes::<Option<u64>>();
     held_numbers_are_in_use::<Option<u64>>();
