@@ -1,13 +1,18 @@
 -- The words of a pool whose one token holds nothing.
-use Rattle.std.proofs.Common.{◌≡◌, ◌≢◌, ◌⊎◌, inl, inr, ⊎_elim, ℕ, zero, suc, ◌+◌, ◌<◌, List, [], ◌∷◌, ◌++◌, length, map, sum_by, get_or, refl, sym, ap, subst, ◌∙◌, arith, length-append, below_more}
+use Rattle.std.proofs.Common.{◌≡◌, ◌≢◌, ◌⊎◌, inl, inr, ⊎_elim, ℕ, zero, suc, ◌+◌, ◌<◌, ◌≤◌, List, [], ◌∷◌, ◌++◌, length, map, sum_by, get_or, refl, sym, ap, subst, ◌∙◌, arith, length-append, below_more}
 use Rattle.std.proofs.lemmas.List.Sums.{sum_by-append}
 use mathlib.Core.Logic.{dite}
 use mathlib.Core.Option.{some, some-injective, some-ne-none}
 use lib.ListN.{get_elem?}
-use native.Mathlib.Decide.{ℕ_discrete}
-use Rattle.std.specs.Prelude.{All}
+use native.Mathlib.Decide.{ℕ_discrete, dec_le}
+use Rattle.std.proofs.Math.Numerals.{add-one}
+use Rattle.std.specs.Prelude.{All, min}
 use Rattle.atomic_table.specs.Table.{Final, Seen, Joins}
+use Rattle.node_forest.specs.Counts.{times}
+use Rattle.node_forest.specs.Forest.{nodes_of}
 use Rattle.node_forest.specs.Label.{Node}
+use Rattle.node_forest.proofs.Counts.{times_append, times_some, times_pos}
+use Rattle.node_forest.proofs.Members.{nodes_append}
 use Rattle.pool_rule.specs.Pools.{Terms, Handed, Member, IsKnown, Kept, made_by, ended_by}
 use Rattle.pool_rule.specs.Rules.{Among}
 use Rattle.pool_rule.proofs.Alone.{member_split}
@@ -16,7 +21,8 @@ use Rattle.pool_rule.specs.Notes.{Tally, Use}
 use Rattle.pool_rule.specs.Views.{View, blank, merged, tally_of}
 use Rattle.pool_rule.proofs.Calls.{merges}
 use Rattle.pool_rule.proofs.Ends.{empties, known}
-use Rattle.node_pool.specs.Closes.{IsAllIdle, IsWhole, AreCountsWithin, AreTakenByWorkers, IsUsed, AreReturned}
+use Rattle.pool_rule.proofs.Settled.{in_use, in_use_held}
+use Rattle.node_pool.specs.Closes.{IsAllIdle, IsWhole, AreCountsWithin, AreTakenByWorkers, AreAllEnded, numbers_in, all_holds, IsUsed, AreReturned}
 use Rattle.node_pool.specs.Tokens.{IsWorkerView}
 
 word_is : (ws : List ℕ) (n x : ℕ) → get_elem? ws n ≡ some x → get_or ws n 0 ≡ x
@@ -35,6 +41,50 @@ still_free ws n x before after at free used inv none_ =
     dite (ℕ_discrete x 0)
     (λ z. let same = free z in below_more (λ (k : ℕ). get_or ws k 0 ≡ 0) n (inv (omega (arith, same, none_))) (word_is ws n x at ∙ z))
     (λ ne. let more = used ne in absurd (omega (arith, more, none_)))
+
+-- ---- numbers in use
+-- where all passes ended, a word isn't 0 just where its number stands in the whole token's trees
+pub record IsCountedIn (x times_ : ℕ) : Type 0 where
+  pub free : x ≡ 0 → times_ ≡ 0
+  pub used : x ≢ 0 → 1 ≤ times_
+
+pub number_counted : {S : Type 0} (p : Terms S) (id : ℕ) (v : View) (ws : List ℕ) (xs : List S) (n x : ℕ) → Final (Seen (Kept p) id v) ws xs → v.spare ≡ p.workers → v.passes ≡ 0 → made_by v ≡ ended_by v → n < p.numbers → get_elem? ws n ≡ some x
+    → IsCountedIn x (times n (nodes_of v.holds))
+number_counted p id v ws xs n x f all own ended low at =
+    let word : get_or f.0.words n 0 ≡ x = ap (λ (z : List ℕ). get_or z n 0) f.2 ∙ word_is ws n x at in
+    record {
+      free = λ z.
+          dite (dec_le 1 (times n (nodes_of v.holds)))
+          (λ some_. let q = times_some n (nodes_of v.holds) some_ in absurd (in_use p f.0 id v f.1.0 f.1.1 q.0 q.1 (ap (λ (k : ℕ). get_or f.0.words k 0) q.2 ∙ (word ∙ z))))
+          (λ none_. omega (arith, none_));
+      used = λ ne.
+          let q = in_use_held p f.0 id v f.1.0 f.1.1 all own ended n low (λ z. ne (sym word ∙ z)) in
+          times_pos n q.0 (nodes_of v.holds) q.1 q.2;
+    }
+
+pub number_more : (n x before after : ℕ) (trees : List Node) → IsCountedIn x (times n (nodes_of trees)) → (x ≡ 0 → after ≡ before) → (x ≢ 0 → after ≡ before + 1) → before ≡ numbers_in n trees → after ≡ numbers_in (n + 1) trees
+number_more n x before after trees is free used so_far =
+    dite (ℕ_discrete x 0)
+    (λ z. let same = free z in let none_ = is.free z in let e : after ≡ numbers_in n trees + min 1 (times n (nodes_of trees)) = omega (arith, same, none_, so_far) in e)
+    (λ ne. let more = used ne in let one = is.used ne in let e : after ≡ numbers_in n trees + min 1 (times n (nodes_of trees)) = omega (arith, more, one, so_far) in e)
+    ∙ sym (ap (λ (k : ℕ). numbers_in k trees) (add-one n))
+
+numbers_same : (size : ℕ) (a b : List Node) → ((n : ℕ) → times n (nodes_of a) ≡ times n (nodes_of b)) → numbers_in size a ≡ numbers_in size b
+numbers_same zero a b h = refl
+numbers_same (suc n) a b h = (λ i. numbers_same n a b h i + min 1 (h n i))
+
+times_both : (n : ℕ) (a b : List Node) → times n (nodes_of (a ++ b)) ≡ times n (nodes_of a) + times n (nodes_of b)
+times_both n a b = ap (times n) (nodes_append a b) ∙ times_append n (nodes_of a) (nodes_of b)
+
+abbrev times_in : ℕ → View → ℕ
+times_in n v = times n (nodes_of v.holds)
+
+times_all : (n : ℕ) (ws : List View) → times n (nodes_of (all_holds ws)) ≡ sum_by (times_in n) ws
+times_all n [] = refl
+times_all n (w ∷ ws) = omega (arith, times_both n w.holds (all_holds ws), times_all n ws, sum_by-append (times_in n) (w ∷ []) ws)
+
+last-sum : (f : View → ℕ) (ws : List View) (w : View) → sum_by f (ws ++ w ∷ []) ≡ sum_by f ws + f w
+last-sum f ws w = omega (arith, sum_by-append f ws (w ∷ []), sum_by-append f (w ∷ []) [])
 
 -- ---- all workers in one
 member_front : {A : Type 0} (x : A) (a b : List A) → Member x a → Member x (a ++ b)
@@ -57,6 +107,7 @@ pub record IsMerged (first : View) (ws : List View) (v : View) : Type 0 where
   pub full_own : (n : ℕ) → Among n first.full → Among n v.full
   pub full : (w : View) → Member w ws → (n : ℕ) → Among n w.full → Among n v.full
   pub taken : (n : ℕ) → Among n v.taken → Among n first.taken ⊎ ((u : View) × Member u ws × Among n u.taken)
+  pub trees : (n : ℕ) → times n (nodes_of v.holds) ≡ times n (nodes_of first.holds) + sum_by (times_in n) ws
   pub away : v.away ≡ []
   pub used_own : (u : Use) → Member u first.used → Member u v.used
   pub used_in : (w : View) → Member w ws → (u : Use) → Member u w.used → Member u v.used
@@ -74,14 +125,12 @@ merged_first numbers most first v same i = subst (IsMerged first []) (sym same) 
   full_own = λ n h. h;
   full = λ w h n a. absurd h;
   taken = λ n h. inl h;
+  trees = λ n. omega arith;
   away = i.away;
   used_own = λ u h. h;
   used_in = λ w h u a. absurd h;
   used_out = λ u h. inl h;
 })
-
-last-sum : (f : View → ℕ) (ws : List View) (w : View) → sum_by f (ws ++ w ∷ []) ≡ sum_by f ws + f w
-last-sum f ws w = omega (arith, sum_by-append f ws (w ∷ []), sum_by-append f (w ∷ []) [])
 
 pub merged_more : (numbers most : ℕ) (first : View) (ws : List View) (v w x : View) → IsMerged first ws v → w ≡ x → IsWorkerView numbers most x → IsMerged first (ws ++ x ∷ []) (merged v w)
 merged_more numbers most first ws v w x m same i =
@@ -106,6 +155,7 @@ merged_more numbers most first ws v w x m same i =
           (λ a. ⊎_elim (λ b. inl b) (λ b. inr (b.0, member_front b.0 ws (x ∷ []) b.1, b.2)) (m.taken n a))
           (λ a. inr (x, member_back x ws (x ∷ []) (inl refl), subst (λ (z : View). Among n z.taken) same a))
           (among_split n v.taken w.taken h);
+      trees = λ n. omega (arith, m.trees n, times_both n v.holds w.holds, ap (times_in n) same, last-sum (times_in n) ws x);
       away = m.away;
       used_own = λ u h. member_front u v.used w.used (m.used_own u h);
       used_in = λ z h u a. ⊎_elim
@@ -187,6 +237,13 @@ module _ (first : View) (ws all : List View) (v : View) (m : IsMerged first ws v
         called = λ z u h. a.called z u (one u h);
       }
 
+  pub merged_held : (size in_use : ℕ) → (v.passes ≡ 0 → made_by v ≡ ended_by v → in_use ≡ numbers_in size v.holds) → AreAllEnded all → in_use ≡ numbers_in size (all_holds all)
+  merged_held size in_use held ended_ =
+      let made = ap (λ (l : List View). sum_by (λ (z : View). z.made) l) is in
+      let ended = ap (λ (l : List View). sum_by (λ (z : View). z.ended) l) is in
+      held m.passes (omega (arith, m.made, m.ended, ended_, made, ended, last-sum (λ (z : View). z.made) ws first, last-sum (λ (z : View). z.ended) ws first))
+      ∙ numbers_same size v.holds (all_holds all) (λ n. omega (arith, m.trees n, times_all n all, ap (λ (l : List View). sum_by (times_in n) l) is, last-sum (times_in n) ws first))
+
   -- where the whole token holds nothing, no worker does
   pub merged_nothing : v.holds ≡ [] → All (λ (w : View). w.holds ≡ []) all
   merged_nothing none_ = each_nothing all (omega (
@@ -196,9 +253,6 @@ module _ (first : View) (ws all : List View) (v : View) (m : IsMerged first ws v
     ap (λ (l : List View). sum_by (λ (z : View). length z.holds) l) is,
     last-sum (λ (z : View). length z.holds) ws first,
   ))
-
-pub spare_all : (workers : ℕ) (first : View) (ws all : List View) (v : View) → IsMerged first ws v → all ≡ ws ++ first ∷ [] → length all ≡ workers → v.spare ≡ workers
-spare_all workers first ws all v m is count = omega (arith, m.spare, count, ap (λ (l : List View). length l) is, length-append ws (first ∷ []))
 
 pub known_at : {S : Type 0} (p : Terms S) (id : ℕ) (v : View) (ws : List ℕ) (xs : List S) → Final (Seen (Kept p) id v) ws xs → v.spare ≡ p.workers → IsKnown v
 known_at p id v ws xs f all = known p f.0 id v f.1.0 f.1.1 all

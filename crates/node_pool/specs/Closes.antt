@@ -1,5 +1,8 @@
--- When a closed pool has no number in use, what is known of the steps of its workers, and how its boxes come back.
-use Rattle.std.specs.Prelude.{ℕ, ◌≡◌, ◌≢◌, ◌⊎◌, ◌+◌, ◌<◌, List, [], length, sum_by, All, Some, None, slice_index_or}
+-- Which numbers of a closed pool are in use, what is known of the steps of its workers, and how its boxes come back.
+use Rattle.std.specs.Prelude.{ℕ, zero, suc, ◌≡◌, ◌≢◌, ◌⊎◌, ◌+◌, ◌<◌, min, List, [], ◌∷◌, ◌++◌, length, sum_by, All, Some, None, slice_index_or}
+use Rattle.node_forest.specs.Counts.{times}
+use Rattle.node_forest.specs.Forest.{nodes_of}
+use Rattle.node_forest.specs.Label.{Node}
 use Rattle.pool_rule.specs.Notes.{Count, Use}
 use Rattle.pool_rule.specs.Pools.{Handed, Member, IsWithin, made_by, ended_by}
 use Rattle.pool_rule.specs.Rules.{Among}
@@ -25,6 +28,21 @@ AreCountsWithin workers = (v : View) → Member v workers → (c : Count) → Me
 -- each number that a worker's takes found in use was taken by some worker
 abbrev pub AreTakenByWorkers : List View → Type 0
 AreTakenByWorkers workers = (v : View) → Member v workers → (n : ℕ) → Among n v.full → (u : View) × Member u workers × Among n u.taken
+
+-- ---- numbers
+-- how many of the numbers below a bound stand in the trees
+abbrev pub numbers_in : ℕ → List Node → ℕ
+numbers_in zero trees = 0
+numbers_in (suc n) trees = numbers_in n trees + min 1 (times n (nodes_of trees))
+
+-- the direct holds of all workers
+abbrev pub all_holds : List View → List Node
+all_holds [] = []
+all_holds (v ∷ vs) = v.holds ++ all_holds vs
+
+-- the workers ended together as many passes as they made
+abbrev pub AreAllEnded : List View → Type 0
+AreAllEnded workers = sum_by (λ (v : View). v.made) workers ≡ sum_by (λ (v : View). v.ended) workers
 
 -- ---- boxes
 -- some worker's external used the slot

@@ -1,9 +1,9 @@
 //! How a pool ends.
 ghost use Rattle.std.specs.Prelude.{◌≡◌, ◌≢◌, ◌+◌, ◌-◌, ◌^◌, ◌<◌, ◌≤◌, [], ◌∷◌, ◌++◌, length, map, All, vec_len, vec_capacity};
-ghost use Rattle.pool_rule.specs.Pools.{IsKnown};
+ghost use Rattle.pool_rule.specs.Pools.{made_by, ended_by, IsKnown};
 ghost use Rattle.pool_rule.specs.Views.{View};
 ghost use Rattle.node_pool.specs.Boxes.{handed_of};
-ghost use Rattle.node_pool.specs.Closes.{IsAllIdle, IsWhole, AreCountsWithin, AreTakenByWorkers, AreReturned};
+ghost use Rattle.node_pool.specs.Closes.{AreAllEnded, numbers_in, all_holds, IsAllIdle, IsWhole, AreCountsWithin, AreTakenByWorkers, AreReturned};
 ghost use Rattle.node_pool.specs.Outlets.{box_in};
 
 use crate::naming::Naming;
@@ -26,13 +26,14 @@ pub struct Closed<B> {
 }
 
 impl<P: Naming, B: Releaser> Pool<P, B> {
-    /// All workers are given. Where they hold nothing, and ended together as many passes as they made, no number is in use. Where
-    /// none is, each box whose slot an external used was called for it, and no other box was.
+    /// All workers are given. Where they ended together as many passes as they made, the numbers in use are those that stand in their
+    /// trees, so none where they hold nothing. Where none is, each box whose slot an external used was called for it, and no other box was.
     pub fn close(self, workers: Vec<Worker<P>>) -> Closed<B>
         requires all { length workers.items ≡ P.workers }
         ensures idle { IsAllIdle workers.items → result.in_use ≡ 0 }
         ensures counts { AreCountsWithin workers.items }
         ensures taken { AreTakenByWorkers workers.items }
+        ensures held { AreAllEnded workers.items → result.in_use ≡ numbers_in P.size (all_holds workers.items) }
         ensures nothing { result.in_use ≡ 0 → All (λ (v : View). v.holds ≡ []) workers.items }
         ensures boxes { AreReturned P.boxes workers.items result.in_use (map (λ b. record { calls = B.calls_of b; latest = B.latest_of b }) result.releasers.items) }
     {
@@ -84,6 +85,7 @@ pub(crate) fn emptied<B: Releaser>(
     requires whole { (seat.me.0.spare ≡ table.shared.key.workers) × (seat.me.0.away ≡ []) }
     ensures idle { IsWhole table.shared.key.workers seat.me.0 → result.0 ≡ 0 }
     ensures known { IsKnown seat.me.0 }
+    ensures held { seat.me.0.passes ≡ 0 → made_by seat.me.0 ≡ ended_by seat.me.0 → result.0 ≡ numbers_in numbers seat.me.0.holds }
     ensures nothing { result.0 ≡ 0 → seat.me.0.holds ≡ [] }
     ensures boxes { AreReturned (map handed_of table.shared.key.boxes.items) (seat.me.0 ∷ []) result.0 (map (λ b. record { calls = B.calls_of b; latest = B.latest_of b }) result.1.items) }
 {

@@ -6,9 +6,9 @@ use Rattle.std.proofs.Math.Numerals.{add-one}
 use Rattle.std.proofs.Math.Seq.{take-length}
 use Rattle.std.proofs.lemmas.List.{length-map}
 use Rattle.node_pool.specs.Boxes.{handed_of}
-use Rattle.node_pool.specs.Closes.{AreReturned}
+use Rattle.node_pool.specs.Closes.{AreReturned, numbers_in}
 use Rattle.node_pool.specs.Outlets.{box_in, boxes_in}
-use Rattle.node_pool.proofs.Closing.{zero_word, still_free, known_at}
+use Rattle.node_pool.proofs.Closing.{zero_word, still_free, known_at, number_counted, number_more}
 use Rattle.node_pool.proofs.Returning.{boxes_in-take, handed_in, nothing_held, returned}
 use Rattle.node_pool.proofs.close.emptied.Goals as goal
 
@@ -20,6 +20,7 @@ loop-n-preserved g c =
     let low = c.loop-n-test.true in
     record {
       few = omega (arith, inv.few, e.most);
+      held = λ own ended. number_more c.loop-n.n _ _ _ _ (number_counted _ _ _ _ _ _ _ c.close_with-closed.ensures.values.2 c.requires.whole.0 own ended (omega (arith, keyed.1, low)) c.word.ensures) e.free e.used (inv.held own ended);
       free = still_free _ _ _ _ _ c.word.ensures e.free e.used inv.free;
       idle = λ w. e.free (zero_word _ _ _ _ _ _ _ c.close_with-closed.ensures.values.2 w (omega (arith, keyed.1, low)) c.word.ensures) ∙ inv.idle w;
     }
@@ -53,6 +54,11 @@ loop-i-preserved g c =
 
 pub returns-clause-known : goal.returns-clause-known
 returns-clause-known g c = known_at _ _ _ _ _ c.close_with-closed.ensures.values.2 c.requires.whole.0
+
+pub returns-clause-held : goal.returns-clause-held
+returns-clause-held g c =
+    let whole : c.loop-n.n ≡ c.args.numbers = omega (arith, c.loop-n-test.false, c.loop-n.auto.n-end) in
+    λ own ended. c.loop-n.invariant.held own ended ∙ ap (λ (k : ℕ). numbers_in k c.args.seat.me.0.holds) whole
 
 pub returns-clause-nothing : goal.returns-clause-nothing
 returns-clause-nothing g c = λ z. nothing_held _ _ _ _ _ c.close_with-closed.ensures.values.2 (λ n low. c.loop-n.invariant.free z n (omega (arith, low, c.requires.numbers.1)))

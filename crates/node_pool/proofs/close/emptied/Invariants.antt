@@ -1,7 +1,8 @@
 -- What the loops of `emptied` keep.
 use Rattle.std.proofs.Common.{◌≡◌, ℕ, ◌<◌, ◌≤◌, true, false, take, vec_len, vec_capacity, get_or}
 use Rattle.std.specs.Mem.Slots.{slots_filled, slots_items, slots_len}
-use Rattle.node_pool.specs.Closes.{IsWhole}
+use Rattle.pool_rule.specs.Pools.{made_by, ended_by}
+use Rattle.node_pool.specs.Closes.{IsWhole, numbers_in}
 use Rattle.node_pool.specs.Outlets.{boxes_in}
 use Rattle.node_pool.proofs.close.emptied.Given as goal
 
@@ -9,6 +10,7 @@ abbrev pub invariant-loop-n : goal.invariant-loop-n
 invariant-loop-n g l = record {
   few : l.in_use ≤ l.n;
   idle : IsWhole l.fn.table.shared.key.workers l.fn.seat.me.0 → l.in_use ≡ 0;
+  held : l.fn.seat.me.0.passes ≡ 0 → made_by l.fn.seat.me.0 ≡ ended_by l.fn.seat.me.0 → l.in_use ≡ numbers_in l.n l.fn.seat.me.0.holds;
   free : l.in_use ≡ 0 → (k : ℕ) → k < l.n → get_or (slots_items l.closed.words) k 0 ≡ 0;
 }
 

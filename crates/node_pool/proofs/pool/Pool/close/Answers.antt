@@ -1,15 +1,15 @@
 -- What the proof of `Pool::close` needs beyond the search.
-use Rattle.std.proofs.Common.{rules, ◌≡◌, ◌++◌, ◌∷◌, [], List, map, ap, sym, ◌∙◌, subst, arith}
+use Rattle.std.proofs.Common.{rules, ◌≡◌, ◌++◌, ◌∷◌, [], ℕ, List, map, ap, sym, ◌∙◌, subst, arith}
 use Rattle.std.proofs.lemmas.Iterator.Adapters.{YieldsList-from_vec}
 use Rattle.std.proofs.lemmas.Iterator.Consumers.{YieldsList-end}
-use Rattle.pool_rule.specs.Pools.{Handed}
+use Rattle.pool_rule.specs.Pools.{Handed, made_by, ended_by}
 use Rattle.pool_rule.specs.Views.{View}
 use Rattle.node_pool.specs.Boxes.{handed_of}
-use Rattle.node_pool.specs.Closes.{IsWhole, AreReturned}
+use Rattle.node_pool.specs.Closes.{IsWhole, AreReturned, numbers_in}
 use Rattle.node_pool.specs.Tokens.{IsWorkerView}
 use Rattle.node_pool.proofs.Returning.{handed_in}
 use Rattle.node_pool.proofs.Seats.{seat_view}
-use Rattle.node_pool.proofs.Closing.{IsMerged, merged_more, map-id, merged_whole, merged_counts, merged_taken, merge_at, merged_nothing, merged_boxes}
+use Rattle.node_pool.proofs.Closing.{IsMerged, merged_more, map-id, merged_whole, merged_counts, merged_taken, merge_at, merged_nothing, merged_boxes, merged_held}
 use Rattle.node_pool.proofs.pool.Pool.close.Goals as goal
 
 pub join_seat-requires : goal.join_seat-requires
@@ -57,6 +57,8 @@ returns g c =
           (merged_whole g.P.Naming.workers c.into_seat-seat.result.me.0 c.loop-worker.yielded c.args.workers.items c.loop-worker.seat.me.0 inv.merged parts c.requires.all idle));
       counts = merged_counts c.into_seat-seat.result.me.0 c.loop-worker.yielded c.args.workers.items c.loop-worker.seat.me.0 inv.merged parts known;
       taken = merged_taken c.into_seat-seat.result.me.0 c.loop-worker.yielded c.args.workers.items c.loop-worker.seat.me.0 inv.merged parts known;
+      held = λ ended. merged_held c.into_seat-seat.result.me.0 c.loop-worker.yielded c.args.workers.items c.loop-worker.seat.me.0 inv.merged parts g.P.Naming.size c.emptied-in_use.result.0
+          (subst (λ (size : ℕ). c.loop-worker.seat.me.0.passes ≡ 0 → made_by c.loop-worker.seat.me.0 ≡ ended_by c.loop-worker.seat.me.0 → c.emptied-in_use.result.0 ≡ numbers_in size c.loop-worker.seat.me.0.holds) pool.sized.0 c.emptied-in_use.ensures.held) ended;
       nothing = λ z. merged_nothing c.into_seat-seat.result.me.0 c.loop-worker.yielded c.args.workers.items c.loop-worker.seat.me.0 inv.merged parts (c.emptied-in_use.ensures.nothing z);
       boxes = subst (λ (z : List Handed). AreReturned z c.args.workers.items c.emptied-in_use.result.0 back) pool.boxed
           (merged_boxes c.into_seat-seat.result.me.0 c.loop-worker.yielded c.args.workers.items c.loop-worker.seat.me.0 inv.merged parts (map handed_of pool.table.shared.key.boxes.items) back c.emptied-in_use.result.0 c.emptied-in_use.ensures.boxes);
