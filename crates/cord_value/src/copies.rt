@@ -1,5 +1,5 @@
 //! Copies, which share the tree.
-ghost use Rattle.std.specs.Prelude.{◌≡◌, ◌↔◌, ◌≤◌, [], ◌∷◌, length, None, Some, IsSome, IfOk, IfErr, IfSome};
+ghost use Rattle.std.specs.Prelude.{◌≡◌, ◌↔◌, ◌+◌, ◌≤◌, [], ◌∷◌, length, None, Some, IsSome, IfOk, IfErr, IfSome};
 ghost use Rattle.cord_value.specs.Workers.{Keeps, IsBalanced};
 ghost use Rattle.cord_value.specs.Refusals.{IsCopyRefused};
 ghost use Rattle.cord_value.specs.Views.{passes_of};
@@ -21,6 +21,7 @@ impl<P: Naming> Cord<P> {
         ensures kept { self.new ≡ self.old }
         ensures same { IfOk result (λ c. c ≡ self.old) }
         ensures worker { IfOk result (λ c. Keeps [] (passes_of c.tree) 0 w.old w.new) }
+        ensures shared { IfOk result (λ c. w.new.shares ≡ w.old.shares + passes_of c.tree) }
         ensures refused { IfErr result (λ x. IsCopyRefused P.limit self.old.tree x w.old w.new) }
         ensures balanced { IfErr result (λ _. IsBalanced w.old w.new) }
     {
@@ -56,6 +57,7 @@ impl<P: Naming> Cord<P> {
         ensures spent { IfOk result (λ r. IsSome r.1 ↔ (self.old.tree ≡ None)) }
         ensures back { IfOk result (λ r. IfSome r.1 (λ p. p.holds ≡ [])) }
         ensures worker { IfOk result (λ _. Keeps [] 0 0 w.old w.new) }
+        ensures shared { IfOk result (λ r. w.new.shares ≡ w.old.shares + passes_of r.0.tree) }
         ensures refused { IfErr result (λ r. (r.pass.holds ≡ []) × (w.new ≡ w.old)) }
         ensures memory { IfErr result (λ _. IsSome self.old.tree) }
     {
@@ -95,6 +97,7 @@ fn share_tree<P: Naming, B: Releaser>(
     ensures own { own.new.holds ≡ root.now ∷ [] }
     ensures other { other.new.holds ≡ root.now ∷ [] }
     ensures worker { Keeps [] 0 0 w.old w.new }
+    ensures shared { w.new.shares ≡ w.old.shares + 1 }
 {
     pool.draw(w, own);
     pool.share(w, root);

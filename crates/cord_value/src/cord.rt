@@ -71,6 +71,7 @@ impl<P: Naming> Cord<P> {
         ensures formed { IfOk result (λ c. IsTreeOf c.bytes c.tree) }
         ensures shape { IfOk result (λ c. IfSome c.tree (λ e. shape_of e ≡ flat_shape (length bytes.now))) }
         ensures worker { IfOk result (λ c. Keeps (numbers_of c.tree) (passes_of c.tree) 0 w.old w.new) }
+        ensures unshared { IfOk result (λ _. w.new.shares ≡ w.old.shares) }
         ensures short { IfOk result (λ _. length bytes.now ≤ 4083) }
         ensures refused { IfErr result (λ x. IsMakeRefused P.size P.limit (length bytes.now) x w.old w.new) }
         ensures balanced { IfErr result (λ _. IsBalanced w.old w.new) }
@@ -126,6 +127,7 @@ impl<P: Naming> Cord<P> {
     pub fn release<B: Releaser>(self, pool: &Pool<P, B>, w: &mut Worker<P>)
         requires room { length w.old.holds ≤ 96 }
         ensures worker { Keeps [] 0 (passes_of self.tree) w.old w.new }
+        ensures unshared { w.new.shares ≡ w.old.shares }
     {
         let Cord { form } = self;
         match form {
