@@ -9,8 +9,12 @@ mod finish;
 mod laws;
 mod look;
 mod mark;
+#[cfg(test)]
+mod mark_tests;
 mod naming;
 mod outlet;
+#[cfg(test)]
+mod outlet_tests;
 mod passes;
 mod plays;
 mod pool;
