@@ -7,6 +7,8 @@ mod inline;
 mod refusals;
 #[cfg(test)]
 mod tests;
+#[cfg(test)]
+mod thread_tests;
 
 pub use cord::Cord;
 pub use refusals::{CopyRefused, CordError};
