@@ -1,0 +1,55 @@
+//! Measures copies of cords beside clones of an `Arc`, and new cords beside an `Arc` of a new `Vec`. With no word it does a little
+//! work and tells nothing of time; with a number it takes the medians of so many runs.
+#![tactic(auto)]
+
+mod arcs;
+mod copies;
+mod lap;
+mod making;
+mod plan;
+mod report;
+mod seats;
+
+use plan::{Making, Plan, Sharing};
+use report::{measure_copies, measure_making, try_copies, try_making};
+use std::{env, io};
+
+// How often each thread copies and releases, and how often a value is made, in a run that is timed.
+const ROUNDS: u32 = 100000;
+
+fn main(rt: HostRuntime) -> io::Result<()> {
+    let word = env::args(&rt)?.nth(1);
+    let runs = word.and_then(|w| w.as_str().parse::<usize>().ok());
+    for sharing in [Sharing::One, Sharing::Own] {
+        let Some(runs) = runs else {
+            let plan = Plan {
+                sharing,
+                threads: 2,
+                rounds: 8,
+            };
+            println!(rt; "{}", try_copies(&rt, rt.alloc(), plan)?)?;
+            continue;
+        };
+        for threads in [1usize, 2, 4] {
+            let plan = Plan {
+                sharing,
+                threads,
+                rounds: ROUNDS,
+            };
+            println!(rt; "{}", measure_copies(&rt, rt.alloc(), plan, runs)?)?;
+        }
+    }
+    for size in [20usize, 500, 4083] {
+        let Some(runs) = runs else {
+            let making = Making { size, rounds: 8 };
+            println!(rt; "{}", try_making(&rt, rt.alloc(), making)?)?;
+            continue;
+        };
+        let making = Making {
+            size,
+            rounds: ROUNDS,
+        };
+        println!(rt; "{}", measure_making(&rt, rt.alloc(), making, runs)?)?;
+    }
+    Ok(())
+}
