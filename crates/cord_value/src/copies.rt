@@ -1,5 +1,5 @@
 //! Copies, which share the tree.
-ghost use Rattle.std.specs.Prelude.{◌≡◌, ◌↔◌, ◌+◌, ◌≤◌, [], ◌∷◌, length, None, Some, IsSome, IfOk, IfErr, IfSome};
+ghost use Rattle.std.specs.Prelude.{◌≡◌, ◌↔◌, ◌+◌, ◌≤◌, [], length, None, Some, IsSome, IfOk, IfErr, IfSome};
 ghost use Rattle.cord_value.specs.Workers.{Keeps, IsBalanced};
 ghost use Rattle.cord_value.specs.Refusals.{IsCopyRefused};
 ghost use Rattle.cord_value.specs.Views.{passes_of};
@@ -8,7 +8,7 @@ use crate::cord::{Cord, Form};
 use crate::inline::inline_of;
 use crate::refusals::{CopyRefused, CordError};
 use cord_port::Releaser;
-use node_pool::{Edge, Naming, Pass, PassLimit, Pool, Worker};
+use node_pool::{Naming, Pass, PassLimit, Pool, Worker};
 
 impl<P: Naming> Cord<P> {
     /// A cord with the very same tree, under a pass of its own, or with the same inline bytes.
@@ -73,7 +73,7 @@ impl<P: Naming> Cord<P> {
                 let Ok(again) = root.again() else {
                     return Err(CopyRefused { pass });
                 };
-                share_tree(pool, w, own, &mut pass, root);
+                pool.share_pass(w, own, &mut pass, root);
                 let copy = Cord {
                     form: Form::Tree { pass, root: again },
                 };
@@ -81,26 +81,4 @@ impl<P: Naming> Cord<P> {
             }
         }
     }
-}
-
-// One hold more of the tree that a pass keeps, for an empty pass.
-fn share_tree<P: Naming, B: Releaser>(
-    pool: &Pool<P, B>,
-    w: &mut Worker<P>,
-    own: &mut Pass<P>,
-    other: &mut Pass<P>,
-    root: &Edge,
-)
-    requires room { length w.old.holds ≤ 96 }
-    requires own { own.old.holds ≡ root.now ∷ [] }
-    requires other { other.old.holds ≡ [] }
-    ensures own { own.new.holds ≡ root.now ∷ [] }
-    ensures other { other.new.holds ≡ root.now ∷ [] }
-    ensures worker { Keeps [] 0 0 w.old w.new }
-    ensures shared { w.new.shares ≡ w.old.shares + 1 }
-{
-    pool.draw(w, own);
-    pool.share(w, root);
-    pool.fill(w, own, root);
-    pool.fill(w, other, root);
 }

@@ -133,10 +133,8 @@ impl<P: Naming> Cord<P> {
         match form {
             Form::Inline(_) => {}
             Form::Tree { pass, root } => {
-                let mut own = pass;
-                pool.draw(w, &mut own);
+                pool.draw_and_end(w, pass);
                 pool.leave(w, &root);
-                pool.end(w, own);
             }
         }
     }

@@ -5,6 +5,7 @@ pub mod Finishing
 pub mod Hiring
 pub mod Marking
 pub mod OwnSlots
+pub mod PassTrees
 pub mod Passing
 pub mod Returning
 pub mod Seats

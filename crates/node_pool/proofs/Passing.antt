@@ -34,7 +34,7 @@ module _ (numbers most : ℕ) where
   pub passes_pass : (w : View) → IsPassView numbers most w → w.passes ≡ 1
   passes_pass w i = ap (λ (z : View). z.passes) i.is
 
-  spare_pass : (w : View) → IsPassView numbers most w → w.spare ≡ 0
+  pub spare_pass : (w : View) → IsPassView numbers most w → w.spare ≡ 0
   spare_pass w i = ap (λ (z : View). z.spare) i.is
 
   pub spent_pass : (w : View) → IsPassView numbers most w → spent w ≡ blank 0 numbers most 0

@@ -15,6 +15,7 @@ mod naming;
 mod outlet;
 #[cfg(test)]
 mod outlet_tests;
+mod pass_trees;
 mod passes;
 mod plays;
 mod pool;
