@@ -1,5 +1,5 @@
 //! The slots that workers have, use, and run out of.
-ghost use Rattle.std.specs.Prelude.{◌≡◌, ◌+◌, ◌-◌, ◌^◌, ◌<◌, ◌≤◌, [], ◌∷◌, length, All, IfOk, IfSome};
+ghost use Rattle.std.specs.Prelude.{◌≡◌, ◌-◌, ◌^◌, ◌<◌, ◌≤◌, [], ◌∷◌, length, All, IfOk, IfSome};
 ghost use Rattle.node_forest.specs.Forest.{children};
 ghost use Rattle.pool_rule.specs.Trades.{Trades};
 ghost use Rattle.cord_port.specs.Logs.{log_calls};

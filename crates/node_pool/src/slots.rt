@@ -1,5 +1,5 @@
 //! The releaser slots of a worker.
-ghost use Rattle.std.specs.Prelude.{◌≡◌, ◌+◌, ◌-◌, ◌*◌, ◌<◌, ◌≤◌, List, ℕ, [], ◌∷◌, length, min, IfSome, IfNone};
+ghost use Rattle.std.specs.Prelude.{◌≡◌, ◌+◌, ◌*◌, ◌<◌, ◌≤◌, List, ℕ, [], ◌∷◌, length, min, IfSome, IfNone};
 ghost use Rattle.node_forest.specs.declared.kind.Kind.TheVariants.{External};
 ghost use Rattle.pool_rule.specs.Notes.{uses_of};
 
