@@ -14,8 +14,11 @@ use plan::{Making, Plan, Sharing};
 use report::{measure_copies, measure_making, try_copies, try_making};
 use std::{env, io};
 
-// How often each thread copies and releases, and how often a value is made, in a run that is timed.
-const ROUNDS: u32 = 100000;
+// How often a thread alone copies and releases, or makes a value, in a run that is timed. So a run is seldom interrupted.
+const ALONE: u32 = 20000;
+
+// How often each of several threads does. So the threads run side by side for most of the time.
+const TOGETHER: u32 = 200000;
 
 fn main(rt: HostRuntime) -> io::Result<()> {
     let word = env::args(&rt)?.nth(1);
@@ -31,10 +34,11 @@ fn main(rt: HostRuntime) -> io::Result<()> {
             continue;
         };
         for threads in [1usize, 2, 4] {
+            let rounds = if threads == 1 { ALONE } else { TOGETHER };
             let plan = Plan {
                 sharing,
                 threads,
-                rounds: ROUNDS,
+                rounds,
             };
             println!(rt; "{}", measure_copies(&rt, rt.alloc(), plan, runs)?)?;
         }
@@ -47,7 +51,7 @@ fn main(rt: HostRuntime) -> io::Result<()> {
         };
         let making = Making {
             size,
-            rounds: ROUNDS,
+            rounds: ALONE,
         };
         println!(rt; "{}", measure_making(&rt, rt.alloc(), making, runs)?)?;
     }
