@@ -4,6 +4,8 @@
 mod copies;
 mod cord;
 mod inline;
+#[cfg(test)]
+mod refusal_tests;
 mod refusals;
 #[cfg(test)]
 mod tests;
