@@ -337,9 +337,10 @@ fn shared_by_four<P: Naming + Send + Sync, R: Threads + Sync>(
     Some((one && two && three && four, in_use))
 }
 
+// There are far more numbers than nodes, since a search may find each number in use while other threads take and leave them in turn.
 #[test]
 fn four_threads_leave_a_shared_edge_unused(rt: HostRuntime) {
-    let opened = opened(rt.alloc(), 8, 2, 4).expect(&rt, "memory");
+    let opened = opened(rt.alloc(), 1024, 2, 4).expect(&rt, "memory");
     let answer = shared_by_four::<Brand, HostRuntime>(&rt, rt.alloc(), opened);
     assert_eq!(rt; answer, Some((true, 0)));
 }
