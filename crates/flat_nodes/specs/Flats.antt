@@ -1,5 +1,5 @@
 -- What a new flat is, and what its making leaves a worker with.
-use Rattle.std.specs.Prelude.{ℕ, ◌≡◌, ◌-◌, List, [], ◌∷◌, ◌++◌, length}
+use Rattle.std.specs.Prelude.{ℕ, ◌≡◌, ◌-◌, ◌<◌, List, [], ◌∷◌, ◌++◌, length}
 use Rattle.node_forest.specs.declared.kind.Kind.{Kind}
 use Rattle.node_forest.specs.declared.kind.Kind.TheVariants.{Flat}
 use Rattle.node_forest.specs.Forest.{empty}
@@ -32,9 +32,10 @@ room_in e = room_by e.0.kind e.0.more
 abbrev pub added : Node → View → View
 added e v = record v { holds = v.holds ++ e ∷ []; taken = v.taken ++ number e ∷ [] }
 
--- the node was added, after steps that found other numbers not 0; all else is as before
-pub record IsAdded (v w : View) (e : Node) : Type 0 where
+-- the node was added, after steps that found other numbers not 0, fewer than the pool has; all else is as before
+pub record IsAdded (size : ℕ) (v w : View) (e : Node) : Type 0 where
   pub found : List ℕ
+  pub few : length found < size
   pub view : w ≡ added e (noting_all found v)
 
 -- each number was found not 0 in this call, or memory was wanting and no step was made

@@ -27,7 +27,7 @@ pub fn new_flat<P: Naming, B: Releaser>(
     ensures text { IfOk result (λ e. text e ≡ bytes.now) }
     ensures formed { IfOk result (λ e. IsWellFormed e) }
     ensures shape { IfOk result (λ e. shape_of e ≡ flat_shape (length bytes.now)) }
-    ensures added { IfOk result (λ e. IsAdded w.old w.new e) }
+    ensures added { IfOk result (λ e. IsAdded P.size w.old w.new e) }
     ensures traded { IfOk result (λ e. Trades w.old.holds [] (e ∷ []) w.new.holds) }
     ensures refused { IfErr result (λ x. IsFlatRefused P.size x w.old w.new) }
 {

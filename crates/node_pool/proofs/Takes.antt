@@ -19,7 +19,7 @@ use Rattle.pool_rule.specs.Trades.{HasHolds, Trades}
 use Rattle.pool_rule.specs.Views.{View, taking, noting, tried}
 use Rattle.pool_rule.proofs.Door.{takes-trades_held}
 use Rattle.pool_rule.proofs.Taken.{among_left, among_right}
-use Rattle.node_pool.specs.Answers.{IsNextSlot, noting_all, IsFull, wrapped, round}
+use Rattle.node_pool.specs.Answers.{IsNextSlot, IsTaken, noting_all, IsFull, wrapped, round}
 
 -- ---- the node
 pub made_again : (e d : Node) (n : ℕ) (b : Body) → e ≡ renumbered n d → d ≡ node_of d.0.number b → e ≡ node_of e.0.number b
@@ -60,6 +60,13 @@ taken_trades e b v u w found ns noted is free below one held =
 length-round : (size start k : ℕ) → length (round size start k) ≡ k
 length-round size start zero = refl
 length-round size start (suc k) = omega (arith, length-round size start k, length-append (round size start k) (wrapped size (start + k) ∷ []))
+
+pub taken_within : (size start i found : ℕ) (e : Node) (v u w : View) → i < size → u ≡ noting_all (round size start i) v → w ≡ tried found e u → found ≡ 0 → IsTaken size v w e
+taken_within size start i found e v u w less noted is free = record {
+  found = round size start i;
+  few = omega (arith, less, length-round size start i);
+  view = is ∙ (tried_free found e u free ∙ ap (taking e) noted);
+}
 
 in_round : (size start k j : ℕ) → j < k → Among (wrapped size (start + j)) (round size start k)
 in_round size start zero j l = absurd (omega arith)

@@ -23,9 +23,10 @@ IsNextSlot _ unused = Unit {0}
 abbrev pub noting_all : List ℕ → View → View
 noting_all ns v = record v { full = v.full ++ ns }
 
--- the node was taken, after steps that found other numbers not 0
-pub record IsTaken (v w : View) (e : Node) : Type 0 where
+-- the node was taken, after steps that found other numbers not 0, fewer than the pool has
+pub record IsTaken (size : ℕ) (v w : View) (e : Node) : Type 0 where
   pub found : List ℕ
+  pub few : length found < size
   pub view : w ≡ taking e (noting_all found v)
 
 -- each number of the pool was found not 0 at a step of this call

@@ -40,7 +40,7 @@ impl<P: Naming, B: Releaser> Pool<P, B> {
         requires room { length w.old.holds < 256 + length (edges_in_body body) }
         requires slot { IsNextSlot body w.old.unused }
         ensures edge { IfOk result (λ e. e ≡ node_of e.0.number body) }
-        ensures taken { IfOk result (λ e. IsTaken w.old w.new e) }
+        ensures taken { IfOk result (λ e. IsTaken P.size w.old w.new e) }
         ensures traded { IfOk result (λ e. Trades w.old.holds (edges_in_body body) (e ∷ []) w.new.holds) }
         ensures refused { IfErr result (λ x. IsRefused P.size x w.old w.new) }
     {

@@ -1,10 +1,11 @@
 -- What the proof of `Pool::take` needs beyond the search.
-use Rattle.std.proofs.Common.{◌∙◌, rules, ◌≡◌, List, [], ◌∷◌, length, sym, ap, subst, arith}
+use Rattle.std.proofs.Common.{◌∙◌, rules, ◌≡◌, ◌<◌, List, [], ◌∷◌, length, sym, ap, subst, arith}
 use Rattle.node_forest.specs.Label.{Node, number}
 use Rattle.node_edges.specs.Body.{edges_in_body}
 use Rattle.pool_rule.specs.Trades.{HasHolds, Trades}
 use Rattle.pool_rule.specs.Views.{View}
-use Rattle.node_pool.proofs.Takes.{made_slot, made_again, made_children, few_edges, noted_more, taken_trades, full_round}
+use Rattle.node_pool.specs.Answers.{IsTaken}
+use Rattle.node_pool.proofs.Takes.{made_slot, made_again, made_children, few_edges, noted_more, taken_trades, taken_within, full_round}
 use Rattle.node_pool.proofs.pool.Pool.take.Goals as goal
 
 pub take_word-requires-clause-held : goal.take_word-requires-clause-held
@@ -30,6 +31,14 @@ returns-then-take_word-eq0-clause-traded g c =
     let below = made_children _ _ _ c.args.body c.renumber.ensures inv.made in
     let t = taken_trades c.renumber.new.self c.args.body c.args.w.now c.loop-i.w c.take_word.new.w c.take_word.result _ inv.noted c.take_word.ensures.tried c.if-take_word-eq0.true below c.take_word.ensures.one_each c.requires.held in
     subst (λ (v : View). Trades c.args.w.now.holds (edges_in_body c.args.body) (c.renumber.new.self ∷ []) v.holds) (sym c.w-in-loop-i.view_is) t
+
+pub returns-then-take_word-eq0-clause-taken : goal.returns-then-take_word-eq0-clause-taken
+returns-then-take_word-eq0-clause-taken g c =
+    let inv = c.loop-i.invariant in
+    let n = g.P.Naming.size in
+    let less : c.loop-i.i < n = omega (arith, c.loop-i-test.true, c.args.self.now.sized.0) in
+    let t = taken_within n c.w.inside.next c.loop-i.i c.take_word.result c.renumber.new.self c.args.w.now c.loop-i.w c.take_word.new.w less inv.noted c.take_word.ensures.tried c.if-take_word-eq0.true in
+    subst (λ (v : View). IsTaken n c.args.w.now v c.renumber.new.self) (sym c.w-in-loop-i.view_is) t
 
 pub loop-i-preserved : goal.loop-i-preserved
 loop-i-preserved g c =
