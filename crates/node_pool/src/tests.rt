@@ -13,7 +13,7 @@ use std::thread::{self, Threads};
 type Boxes = LogReleaser;
 
 fn opened(alloc: Global, numbers: u32, passes: u32, workers: u32) -> Option<Opened<Boxes>>
-    requires numbers { (0 < numbers) × (numbers ≤ 100) }
+    requires numbers { (0 < numbers) × (numbers ≤ 1024) }
     requires passes { (0 < passes) × (passes ≤ 100) }
     requires workers { (0 < workers) × (workers ≤ 8) }
     ensures numbers { IfSome result (λ o. opened_numbers o ≡ numbers) }
