@@ -1,6 +1,7 @@
 -- The box of an external whose last hold went.
 use Rattle.std.proofs.Common.{◌≡◌, ◌≢◌, ◌⊎◌, inl, inr, ℕ, Bool, eqb, eq-eqb, ne_eqb, List, [], ◌∷◌, length, sym, ap, subst, ◌∙◌}
 use Rattle.std.specs.Prelude.{if◌then◌else◌, Option, Some, None}
+use Rattle.atomic_table.specs.Seated.{TableId}
 use Rattle.atomic_table.specs.Table.{Me}
 use Rattle.node_forest.specs.declared.kind.Kind.{Kind}
 use Rattle.node_forest.specs.declared.kind.Kind.TheVariants.{External}
@@ -11,6 +12,8 @@ use Rattle.pool_rule.specs.Pools.{Handed, Box}
 use Rattle.pool_rule.specs.Views.{View, leaving, releasing, homing}
 use Rattle.pool_rule.proofs.Calls.{uses_plain, both_empty}
 use Rattle.node_pool.specs.Boxes.{box_of, pool_terms, IsCarried}
+use Rattle.node_pool.specs.Tokens.{IsWorkerView}
+use Rattle.node_pool.proofs.Seats.{IsAt, IsSeated}
 
 away_plain : (found : ℕ) (t : Node) (v : View) → (found ≢ 1) ⊎ (t.0.kind ≢ External) → (releasing found t v).away ≡ []
 away_plain found t v (inl ne) = ap (λ (b : Bool). if b then uses_of t.0.kind t else []) (ne_eqb found 1 ne)
@@ -37,8 +40,13 @@ module _ {S : Type 0} (numbers workers : ℕ) (boxes : List Handed) (seen : S �
       })
 
 -- with the slot back, the view is that of a leave
-pub homed_leaving : (found : ℕ) (t : Node) (v w x : View) → w ≡ v → w.away ≡ [] → x ≡ releasing found t w → homing x ≡ leaving found t v
+homed_leaving : (found : ℕ) (t : Node) (v w x : View) → w ≡ v → w.away ≡ [] → x ≡ releasing found t w → homing x ≡ leaving found t v
 homed_leaving found t v w x same none_ is = ap homing is ∙ ((λ q. record (leaving found t w) { away = sym none_ q }) ∙ ap (leaving found t) same)
+
+-- a worker's seat after a leave, with the slot back
+pub left_at : {numbers most : ℕ} {wanted at to : TableId} {x v y : View} {C : Type 0} {me : View × C} {c : C} (found : ℕ) (t : Node) → IsSeated (IsWorkerView numbers most) wanted at x v → y ≡ releasing found t x → to ≡ wanted → me ≡ (homing y, c) → IsAt wanted to me.0 (leaving found t v)
+left_at {v = v} found t w is table homed =
+    record { table = table; is = ap (λ z. z.0) homed ∙ homed_leaving found t v _ _ w.is (ap (λ (z : View). z.away) w.is ∙ w.known.away) is }
 
 pub homed_nothing : (v : View) → v.away ≡ [] → homing v ≡ v
 homed_nothing v none_ = λ q. record v { away = sym none_ q }

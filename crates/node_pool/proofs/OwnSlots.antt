@@ -75,12 +75,11 @@ slots_stay s after x v w h was is used unused =
     subst (HasSlots s) (sym (ap only is)) (record { used = old.used ∙ ap (λ (us : List _). s.first + length us) (sym used); unused = unused ∙ old.unused })
 
 -- a word was read
-pub slots_looked : (s : Slots) (after : List View) (n : ℕ) (t : Node) (x v me : View) → HasSlots s x → x ≡ v → me ≡ v → after ≡ looking n t me ∷ [] → HasSlots s (only after)
-slots_looked s after n t x v me h was same is =
-    let old : HasSlots s me = subst (HasSlots s) (was ∙ sym same) h in
-    subst (HasSlots s) (sym (ap only is)) (go (eqb n 1) old)
+pub slots_looked : (s : Slots) (after : List View) (n : ℕ) (t : Node) (x v : View) → HasSlots s x → x ≡ v → after ≡ looking n t v ∷ [] → HasSlots s (only after)
+slots_looked s after n t x v h was is =
+    subst (HasSlots s) (sym (ap only is)) (go (eqb n 1) (subst (HasSlots s) was h))
   where
-    go : (b : Bool) → HasSlots s me → HasSlots s (if b then record me { lone = me.lone ++ number t ∷ [] } else record me { looks = me.looks ++ record { number = number t; found = n; shares = me.shares } ∷ [] })
+    go : (b : Bool) → HasSlots s v → HasSlots s (if b then record v { lone = v.lone ++ number t ∷ [] } else record v { looks = v.looks ++ record { number = number t; found = n; shares = v.shares } ∷ [] })
     go true h = record { used = h.used; unused = h.unused }
     go false h = record { used = h.used; unused = h.unused }
 

@@ -2,6 +2,7 @@
 use Rattle.std.proofs.Common.{◌≡◌, ⊎_elim, ℕ, ◌+◌, ◌-◌, ◌%◌, ◌^◌, ◌<◌, ◌≤◌, List, [], ◌∷◌, ◌++◌, length, sum_by, refl, sym, ap, subst, ◌∙◌, arith, length-append, append-nil}
 use Rattle.std.proofs.lemmas.List.Sums.{sum_by-append}
 use mathlib.Core.Option.{none}
+use Rattle.atomic_table.specs.Seated.{TableId}
 use Rattle.atomic_table.specs.Table.{Me, step, Allows, Splits, Joins}
 use Rattle.node_forest.specs.Label.{Node, number}
 use Rattle.node_forest.proofs.Members.{root_occurs, occurs_split, below_in, alone_out}
@@ -15,8 +16,8 @@ use Rattle.pool_rule.proofs.Giving.{gives-trades}
 use Rattle.pool_rule.proofs.Trades.{trade, Stands-held}
 use Rattle.node_pool.specs.Passes.{uncounted, filled, drawn}
 use Rattle.node_pool.specs.Tokens.{IsWorkerView, IsPassView}
-use Rattle.node_pool.proofs.Passing.{bare_pass, spare_pass, spent_pass, room_pass, passes_pass, drawn_worker, filled_worker}
-use Rattle.node_pool.proofs.Seats.{steady-sharing, worker_again}
+use Rattle.node_pool.proofs.Passing.{bare_pass, spare_pass, spent_pass, room_pass, passes_pass, drawn_at, drawn_worker, filled_worker}
+use Rattle.node_pool.proofs.Seats.{IsAt, IsSeated, steady-sharing, worker_again}
 
 module _ (numbers most : ℕ) where
   -- ---- drawn as the pass ends
@@ -52,6 +53,13 @@ module _ (numbers most : ℕ) where
       let passes : a.passes + b.passes + e.passes ≡ 2 = omega (arith, i.passes, passes_pass numbers most b j, passes_pass numbers most e k) in
       let holds : (a.holds ++ b.holds) ++ e.holds ≡ a.holds ++ b.holds = ap (λ (z : List Node). (a.holds ++ b.holds) ++ z) none_ ∙ append-nil (a.holds ++ b.holds) in
       λ q. record (paired a b) { holds = holds q; room = room q; passes = passes q }
+
+  -- a worker's seat that took in both
+  pub paired_at : {wanted at at' at'' to last : TableId} {x y z a b e : View} {I J C : Type 0} {me me' : View × C} {c c' : C} → IsSeated (IsWorkerView numbers most) wanted at x a → IsSeated (IsPassView numbers most) wanted at' y b → IsSeated (IsPassView numbers most) wanted at'' z e → e.holds ≡ []
+      → (to ≡ at) × I × (me ≡ (drawing x y, c)) → (last ≡ to) × J × (me' ≡ (drawing me.0 z, c')) → IsAt wanted last me'.0 (paired a b)
+  paired_at w p o none_ j k =
+      let d = drawn_at numbers most w p j in
+      record { table = k.0 ∙ d.table; is = ap (λ z. z.0) k.2 ∙ ((λ q. drawing (d.is q) (o.is q)) ∙ paired_is _ _ _ w.known p.known o.known none_) }
 
   -- the tree is a direct hold, before and after it is shared, and after one hold of it went
   drawn_held : (t : Node) (a b : View) → b.holds ≡ t ∷ [] → HasHolds (a.holds ++ b.holds) (t ∷ [])

@@ -2,6 +2,7 @@
 use Rattle.std.proofs.Common.{◌≡◌, ⊎_elim, ℕ, ◌+◌, ◌-◌, ◌%◌, ◌^◌, ◌<◌, ◌≤◌, Bool, List, [], ◌∷◌, ◌++◌, length, refl, sym, ap, subst, ◌∙◌, arith, length-append, append-nil}
 use Rattle.std.specs.Prelude.{if◌then◌else◌}
 use Rattle.std.proofs.lemmas.Bool.{lt-ltb, le-ltb}
+use Rattle.atomic_table.specs.Seated.{TableId}
 use Rattle.atomic_table.specs.Table.{Me, Allows, Splits, Joins}
 use Rattle.node_forest.specs.Forest.{below}
 use Rattle.node_forest.specs.Label.{Node}
@@ -18,7 +19,8 @@ use Rattle.pool_rule.proofs.Calls.{counts, ends, undoes, parts, hands, draws}
 use Rattle.pool_rule.proofs.Door.{held-in}
 use Rattle.pool_rule.proofs.Giving.{gives-trades, occurs_without_node}
 use Rattle.node_pool.specs.Passes.{counted, uncounted, filled, drawn}
-use Rattle.node_pool.specs.Tokens.{IsWorkerView, IsPassView}
+use Rattle.node_pool.specs.Tokens.{IsWorkerView, IsPassView, IsToken}
+use Rattle.node_pool.proofs.Seats.{IsAt, IsSeated, token_of}
 
 module _ (numbers most : ℕ) where
   Worker : View → Type 0
@@ -50,10 +52,9 @@ module _ (numbers most : ℕ) where
   both : {P : Node → Type 0} (a b : List Node) → ((t : Node) → Occurs t a → P t) → ((t : Node) → Occurs t b → P t) → (t : Node) → Occurs t (a ++ b) → P t
   both a b p q t o = ⊎_elim (λ l. p t l) (λ r. q t r) (occurs_split t a b o)
 
-  -- a worker while a pass is part of it
-  pub record IsWith (v w : View) : Type 0 where
-    pub worker : IsWorkerView numbers most v
-    pub pass : IsPassView numbers most w
+  -- a worker's seat that took in a pass's
+  pub drawn_at : {wanted at at' to : TableId} {x y a b : View} {I C : Type 0} {me : View × C} {c : C} → IsSeated (IsWorkerView numbers most) wanted at x a → IsSeated (IsPassView numbers most) wanted at' y b → (to ≡ at) × I × (me ≡ (drawing x y, c)) → IsAt wanted to me.0 (drawing a b)
+  drawn_at w p e = record { table = e.0 ∙ w.table; is = ap (λ z. z.0) e.2 ∙ (λ q. drawing (w.is q) (p.is q)) }
 
   pub join_at : {S : Type 0} (p : Terms S) (id other : ℕ) (v w a b : View) → v ≡ a → w ≡ b → IsWorkerView numbers most a → IsPassView numbers most b → Joins {S = S} (Kept p) id v other w (drawing v w) (blank 0 numbers most 0)
   join_at {S} p id other v w a b e f i j =
@@ -61,13 +62,12 @@ module _ (numbers most : ℕ) where
       subst (λ (z : View). Joins {S = S} (Kept p) id v other w (drawing v w) z) (spent_pass w jw)
       (draws p id other v w (omega (arith, ap (λ (z : View). z.spare) e, i.spare)) (spare_pass w jw) (bare_pass w jw))
 
-  pub part_at : {S : Type 0} (p : Terms S) (id : ℕ) (x v w a b : View) → x ≡ drawing v w → v ≡ a → w ≡ b → IsWorkerView numbers most a → IsPassView numbers most b → length a.holds + length b.holds ≤ 256 → Splits {S = S} (Kept p) id x (parting x) (empty_pass x)
-  part_at p id x v w a b is e f i j few =
-      let count = length-append v.holds w.holds in
+  pub part_at : {S : Type 0} (p : Terms S) (id : ℕ) (x a b : View) → x ≡ drawing a b → IsWorkerView numbers most a → IsPassView numbers most b → length a.holds + length b.holds ≤ 256 → Splits {S = S} (Kept p) id x (parting x) (empty_pass x)
+  part_at p id x a b is i j few =
       parts p id x
-      (omega (arith, ap (λ (z : View). z.spare) is, ap (λ (z : View). z.spare) e, i.spare))
-      (omega (arith, ap (λ (z : View). z.passes) is, ap (λ (z : View). z.passes) f, passes_pass b j))
-      (omega (arith, ap (λ (z : View). length z.holds) is, count, ap (λ (z : View). length z.holds) e, ap (λ (z : View). length z.holds) f, ap (λ (z : View). z.room) is, ap (λ (z : View). z.room) e, ap (λ (z : View). z.room) f, i.room, room_pass b j, few))
+      (omega (arith, ap (λ (z : View). z.spare) is, i.spare))
+      (omega (arith, ap (λ (z : View). z.passes) is, passes_pass b j))
+      (omega (arith, ap (λ (z : View). length z.holds) is, length-append a.holds b.holds, ap (λ (z : View). z.room) is, i.room, room_pass b j, few))
 
   -- ---- what the calls leave
   pub drawn_is : (v w : View) → IsWorkerView numbers most v → IsPassView numbers most w → parting (drawing v w) ≡ drawn v w
@@ -152,22 +152,29 @@ module _ (numbers most : ℕ) where
       let here = root_occurs t v.holds (held-in v.holds t held) in
       holder_view x t (size ∙ i.size) (limit ∙ i.limit) (λ y o. i.sane.narrow y (below_in y t v.holds here (alone_out y t o))) (λ y o. i.fits y (below_in y t v.holds here (alone_out y t o)))
 
-  pub hand_at : {S : Type 0} (p : Terms S) (id : ℕ) (x v w a b : View) (t : Node) → x ≡ drawing v w → v ≡ a → w ≡ b → IsWorkerView numbers most a → IsPassView numbers most b → b.holds ≡ [] → HasHolds a.holds (t ∷ []) → Splits {S = S} (Kept p) id x (giving t x) (holder t x)
-  hand_at p id x v w a b t is e f i j none_ held =
-      let same : x.holds ≡ a.holds = ap (λ (z : View). z.holds) is ∙ ((λ q. (e q).holds ++ (f q).holds) ∙ (ap (λ (z : List Node). a.holds ++ z) none_ ∙ append-nil a.holds)) in
+  -- the seat that was split off with the hold is a pass's
+  pub given_at : {wanted at here to : TableId} {x y v : View} {views : List View} {I J X Y C : Type 0} {me : View × C} {c : C} (t : Node) → IsAt wanted at x y → X × I × Y × (here ≡ at) × (me ≡ (holder t x, c)) → (to ≡ here) × J × (views ≡ me.0 ∷ [])
+      → IsWorkerView numbers most v → HasHolds v.holds (t ∷ []) → y.size ≡ v.size → y.limit ≡ v.limit → IsToken (IsPassView numbers most) wanted to views
+  given_at {wanted} {at} {here} {to} {x} {y} {v} t s e b i held size limit =
+      token_of (IsPassView numbers most) _ _ _ _ (b.0 ∙ (e.3 ∙ s.table)) b.2
+      (subst (IsPassView numbers most) ((λ q. holder t (sym s.is q)) ∙ ap (λ z. z.0) (sym e.4)) (given_view t y v size limit i held))
+
+  pub hand_at : {S : Type 0} (p : Terms S) (id : ℕ) (x a b : View) (t : Node) → x ≡ drawing a b → IsWorkerView numbers most a → IsPassView numbers most b → b.holds ≡ [] → HasHolds a.holds (t ∷ []) → Splits {S = S} (Kept p) id x (giving t x) (holder t x)
+  hand_at p id x a b t is i j none_ held =
+      let same : x.holds ≡ a.holds = ap (λ (z : View). z.holds) is ∙ (ap (λ (z : List Node). a.holds ++ z) none_ ∙ append-nil a.holds) in
       hands p id x t
-      (omega (arith, ap (λ (z : View). z.spare) is, ap (λ (z : View). z.spare) e, i.spare))
-      (omega (arith, ap (λ (z : View). z.passes) is, ap (λ (z : View). z.passes) f, passes_pass b j))
+      (omega (arith, ap (λ (z : View). z.spare) is, i.spare))
+      (omega (arith, ap (λ (z : View). z.passes) is, passes_pass b j))
       (subst (λ (hs : List Node). HasHolds hs (t ∷ [])) (sym same) held)
 
-  pub end_at : {S : Type 0} (p : Terms S) (slots id word : ℕ) (me : Me S View) (v w a b : View) → me.0 ≡ drawing v w → v ≡ a → w ≡ b → IsWorkerView numbers most a → IsPassView numbers most b → length b.holds ≡ 0 → word ≡ p.numbers
+  pub end_at : {S : Type 0} (p : Terms S) (slots id word : ℕ) (me : Me S View) (a b : View) → me.0 ≡ drawing a b → IsWorkerView numbers most a → IsPassView numbers most b → length b.holds ≡ 0 → word ≡ p.numbers
       → Allows (Kept p) slots id me word (λ n. (n + (2 ^ 64 - 1)) % 2 ^ 64) (λ n m'. Told (ending me.0) me m')
-  end_at p slots id word me v w a b is e f i j none_ at =
+  end_at p slots id word me a b is i j none_ at =
       subst (λ (k : ℕ). Allows (Kept p) slots id me k (λ n. (n + (2 ^ 64 - 1)) % 2 ^ 64) (λ n m'. Told (ending me.0) me m')) (sym at)
       (ends p slots id me
-      (omega (arith, ap (λ (z : View). z.spare) is, ap (λ (z : View). z.spare) e, i.spare))
-      (omega (arith, ap (λ (z : View). z.passes) is, ap (λ (z : View). z.passes) f, passes_pass b j))
-      (omega (arith, ap (λ (z : View). length z.holds) is, length-append v.holds w.holds, ap (λ (z : View). length z.holds) e, ap (λ (z : View). length z.holds) f, ap (λ (z : View). z.room) is, ap (λ (z : View). z.room) e, ap (λ (z : View). z.room) f, i.sane.roomy, room_pass b j, none_)))
+      (omega (arith, ap (λ (z : View). z.spare) is, i.spare))
+      (omega (arith, ap (λ (z : View). z.passes) is, passes_pass b j))
+      (omega (arith, ap (λ (z : View). length z.holds) is, length-append a.holds b.holds, ap (λ (z : View). z.room) is, i.sane.roomy, room_pass b j, none_)))
 
   -- ---- a counted step
   pub count_at : {S : Type 0} (p : Terms S) (slots id word : ℕ) (me : Me S View) (a : View) → me.0 ≡ a → IsWorkerView numbers most a → word ≡ p.numbers → Allows (Kept p) slots id me word (λ n. (n + 1) % 2 ^ 64) (λ n m'. Told (counting n me.0) me m')
@@ -181,37 +188,34 @@ module _ (numbers most : ℕ) where
   pub counting_is_below : (n : ℕ) (v : View) → IsWorkerView numbers most v → n < most → counting n v ≡ counting_below n v
   counting_is_below n v i less = ap (λ (b : Bool). if b then counting_below n v else counting_over n v) (lt-ltb n v.limit (omega (arith, less, i.limit)))
 
-  pub undo_at : {S : Type 0} (p : Terms S) (slots id word n : ℕ) (me : Me S View) (v a : View) → me.0 ≡ counting n v → v ≡ a → IsWorkerView numbers most a → most ≤ n → word ≡ p.numbers
+  pub undo_at : {S : Type 0} (p : Terms S) (slots id word n : ℕ) (me : Me S View) (a : View) → me.0 ≡ counting n a → IsWorkerView numbers most a → most ≤ n → word ≡ p.numbers
       → Allows (Kept p) slots id me word (λ n. (n + (2 ^ 64 - 1)) % 2 ^ 64) (λ n m'. Told (undoing me.0) me m')
-  undo_at p slots id word n me v a is e i more at =
-      let iv : IsWorkerView numbers most v = subst (IsWorkerView numbers most) (sym e) i in
-      let over : me.0 ≡ counting_over n v = is ∙ counting_is_over n v iv more in
+  undo_at p slots id word n me a is i more at =
+      let over : me.0 ≡ counting_over n a = is ∙ counting_is_over n a i more in
       subst (λ (k : ℕ). Allows (Kept p) slots id me k (λ n. (n + (2 ^ 64 - 1)) % 2 ^ 64) (λ n m'. Told (undoing me.0) me m')) (sym at)
       (undoes p slots id me
-      (omega (arith, ap (λ (z : View). z.spare) over, iv.spare))
+      (omega (arith, ap (λ (z : View). z.spare) over, i.spare))
       (omega (arith, ap (λ (z : View). z.over) over))
       (omega (arith, ap (λ (z : View). z.passes) over))
-      (omega (arith, ap (λ (z : View). length z.holds) over, ap (λ (z : View). z.room) over, iv.sane.roomy)))
+      (omega (arith, ap (λ (z : View). length z.holds) over, ap (λ (z : View). z.room) over, i.sane.roomy)))
 
-  pub refused_is : (n : ℕ) (x v a : View) → x ≡ counting n v → v ≡ a → IsWorkerView numbers most a → most ≤ n → undoing x ≡ uncounted (counted n a)
-  refused_is n x v a is e i more =
-      let over : x ≡ counting_over n a = is ∙ (ap (counting n) e ∙ counting_is_over n a i more) in
+  pub refused_is : (n : ℕ) (a : View) → IsWorkerView numbers most a → most ≤ n → undoing (counting n a) ≡ uncounted (counted n a)
+  refused_is n a i more =
       let room : a.room + 1 - 1 ≡ a.room = omega arith in
       let passes : a.passes + 1 - 1 ≡ a.passes = omega arith in
       let overs : a.over + 1 - 1 ≡ a.over = omega arith in
-      ap undoing over ∙ (λ q. record (uncounted (counted n a)) { room = room q; passes = passes q; over = overs q })
+      ap undoing (counting_is_over n a i more) ∙ (λ q. record (uncounted (counted n a)) { room = room q; passes = passes q; over = overs q })
 
-  pub part_counted_at : {S : Type 0} (p : Terms S) (id n : ℕ) (x v a : View) → x ≡ counting n v → v ≡ a → IsWorkerView numbers most a → n < most → Splits {S = S} (Kept p) id x (parting x) (empty_pass x)
-  part_counted_at p id n x v a is e i less =
-      let below_ : x ≡ counting_below n a = is ∙ (ap (counting n) e ∙ counting_is_below n a i less) in
+  pub part_counted_at : {S : Type 0} (p : Terms S) (id n : ℕ) (x a : View) → x ≡ counting n a → IsWorkerView numbers most a → n < most → Splits {S = S} (Kept p) id x (parting x) (empty_pass x)
+  part_counted_at p id n x a is i less =
+      let below_ : x ≡ counting_below n a = is ∙ counting_is_below n a i less in
       parts p id x
       (omega (arith, ap (λ (z : View). z.spare) below_, i.spare))
       (omega (arith, ap (λ (z : View). z.passes) below_))
       (omega (arith, ap (λ (z : View). length z.holds) below_, ap (λ (z : View). z.room) below_, i.sane.roomy))
 
-  pub made_is : (n : ℕ) (x v a : View) → x ≡ counting n v → v ≡ a → IsWorkerView numbers most a → n < most → parting x ≡ counted n a
-  made_is n x v a is e i less =
-      let below_ : x ≡ counting_below n a = is ∙ (ap (counting n) e ∙ counting_is_below n a i less) in
+  pub made_is : (n : ℕ) (a : View) → IsWorkerView numbers most a → n < most → parting (counting n a) ≡ counted n a
+  made_is n a i less =
       let room : a.room + 1 - 1 ≡ a.room = omega arith in
       let passes : a.passes + 1 - 1 ≡ a.passes = omega arith in
-      ap parting below_ ∙ (λ q. record (counted n a) { room = room q; passes = passes q })
+      ap parting (counting_is_below n a i less) ∙ (λ q. record (counted n a) { room = room q; passes = passes q })

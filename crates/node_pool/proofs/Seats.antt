@@ -5,6 +5,7 @@ use mathlib.Core.Option.{none}
 use prog.Atomic.{either}
 use Rattle.atomic_table.specs.Seated.{TableId}
 use Rattle.atomic_table.specs.Table.{Me, step, Allows}
+use Rattle.atomic_table.specs.declared.badge.Badge.{Badge}
 use Rattle.node_forest.specs.declared.kind.Kind.TheVariants.{External}
 use Rattle.node_forest.specs.Forest.{children}
 use Rattle.node_forest.specs.Label.{Node, number}
@@ -30,6 +31,51 @@ token_of Is wanted at views v same one is = record {
   one = one ∙ (λ i. sym (ap only one) i ∷ []);
   is = subst Is (sym (ap only one)) is;
 }
+
+-- a seat at the table that is wanted, with this view
+pub record IsAt (wanted at : TableId) (me v : View) : Type 0 where
+  pub table : at ≡ wanted
+  pub is : me ≡ v
+
+-- the seat of a token, of whose view this is true
+pub record IsSeated (Is : View → Type 0) (wanted at : TableId) (me v : View) : Type 0 where
+  pub table : at ≡ wanted
+  pub is : me ≡ v
+  pub known : Is v
+
+module _ {Is : View → Type 0} {wanted at : TableId} {me v : View} {I C : Type 0} where
+  -- the badge was moved
+  pub seated_moved : (b : Badge View) → IsToken Is wanted b.table_id b.views → only b.views ≡ v → (at ≡ b.table_id) × I × (b.views ≡ me ∷ []) × C → IsSeated Is wanted at me v
+  seated_moved b token is seat = record { table = seat.0 ∙ token.table; is = seat_view b.views me v seat.2 is; known = subst Is is token.is }
+
+  -- the badge was taken out of its place
+  pub seated : {b old : Badge View} → b ≡ old → IsToken Is wanted old.table_id old.views → only old.views ≡ v → (at ≡ b.table_id) × I × (b.views ≡ me ∷ []) × C → IsSeated Is wanted at me v
+  seated {b} {old} same token is =
+      seated_moved b (subst (λ (z : Badge View). IsToken Is wanted z.table_id z.views) (sym same) token) (ap (λ (z : Badge View). only z.views) same ∙ is)
+
+-- ---- a seat after a step
+pub at_of : {Is : View → Type 0} {wanted at : TableId} {me v : View} → IsSeated Is wanted at me v → IsAt wanted at me v
+at_of w = record { table = w.table; is = w.is }
+
+-- the same view in other words
+pub said_as : {wanted at : TableId} {me v w : View} → IsAt wanted at me v → v ≡ w → IsAt wanted at me w
+said_as s same = record { table = s.table; is = s.is ∙ same }
+
+module _ {wanted at to : TableId} {x v : View} {I : Type 0} (s : IsAt wanted at x v) where
+  -- what a step on a word told
+  pub told_at : {S : Type 0} (f : View → View) {before after : Me S View} → (to ≡ at) × I × Told (f x) before after → IsAt wanted to after.0 (f v)
+  told_at f e = record { table = e.0 ∙ s.table; is = e.2.view ∙ ap f s.is }
+
+  -- a seat was split off
+  pub split_at : {C J K : Type 0} (f : View → View) {me : View × C} {c : C} → (to ≡ at) × I × (me ≡ (f x, c)) × J × K → IsAt wanted to me.0 (f v)
+  split_at f e = record { table = e.0 ∙ s.table; is = ap (λ z. z.0) e.2 ∙ ap f s.is }
+
+  -- the seat is a badge again
+  pub views_at : {views : List View} → (to ≡ at) × I × (views ≡ x ∷ []) → views ≡ v ∷ []
+  views_at b = b.2 ∙ (λ q. s.is q ∷ [])
+
+  pub token_at : {Is : View → Type 0} {views : List View} → (to ≡ at) × I × (views ≡ x ∷ []) → Is v → IsToken Is wanted to views
+  token_at {Is} b = token_of Is wanted to _ v (b.0 ∙ s.table) (views_at b)
 
 -- what a step leaves of a worker's view
 pub record IsSteady (v w : View) : Type 0 where
@@ -81,11 +127,11 @@ worker_again numbers most v w i s sane fits = record {
 }
 
 -- a worker after a step
-pub worker_told : {S : Type 0} (numbers most : ℕ) (wanted at : TableId) (views : List View) (v w : View) (me after : Me S View) → IsWorkerView numbers most v → me.0 ≡ v → IsSteady me.0 w → Told w me after → at ≡ wanted
-    → views ≡ after.0 ∷ [] → IsToken (IsWorkerView numbers most) wanted at views
-worker_told numbers most wanted at views v w me after i same s told place one =
-    token_of (IsWorkerView numbers most) wanted at views w place (one ∙ (λ q. told.view q ∷ []))
-    (worker_again numbers most me.0 w (subst (IsWorkerView numbers most) (sym same) i) s told.sane told.fits)
+pub worker_told : {S : Type 0} {numbers most : ℕ} {wanted at to back : TableId} {views : List View} {v w : View} {I : Type 0} (me : Me S View) {after : Me S View} → IsSeated (IsWorkerView numbers most) wanted at me.0 v → IsSteady me.0 w → to ≡ at → Told w me after
+    → (back ≡ to) × I × (views ≡ after.0 ∷ []) → IsToken (IsWorkerView numbers most) wanted back views
+worker_told {S} {numbers} {most} {wanted} {at} {to} {back} {views} {v} {w} me seat steady same told b =
+    token_of (IsWorkerView numbers most) wanted back views w (b.0 ∙ (same ∙ seat.table)) (b.2 ∙ (λ q. told.view q ∷ []))
+    (worker_again numbers most me.0 w (subst (IsWorkerView numbers most) (sym seat.is) seat.known) steady told.sane told.fits)
 
 -- the number of what a worker sees is a place of the words
 pub low_stands : (numbers most : ℕ) (v : View) (t : Node) → IsWorkerView numbers most v → Stands v.holds t → number t < numbers

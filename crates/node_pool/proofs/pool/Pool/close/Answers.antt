@@ -6,9 +6,8 @@ use Rattle.pool_rule.specs.Pools.{Handed, made_by, ended_by}
 use Rattle.pool_rule.specs.Views.{View}
 use Rattle.node_pool.specs.Boxes.{handed_of}
 use Rattle.node_pool.specs.Closes.{IsWhole, AreReturned, numbers_in}
-use Rattle.node_pool.specs.Tokens.{IsWorkerView}
 use Rattle.node_pool.proofs.Returning.{handed_in}
-use Rattle.node_pool.proofs.Seats.{seat_view}
+use Rattle.node_pool.proofs.Seats.{seated_moved}
 use Rattle.node_pool.proofs.Closing.{IsMerged, merged_more, map-id, merged_whole, merged_counts, merged_taken, merge_at, merged_nothing, merged_boxes, merged_held}
 use Rattle.node_pool.proofs.pool.Pool.close.Goals as goal
 
@@ -16,40 +15,30 @@ pub join_seat-requires : goal.join_seat-requires
 join_seat-requires g c =
     let pool = c.args.self in
     let inv = c.loop-worker.invariant in
-    let k = c.into_seat.ensures in
-    let i = c.worker.invariant.1 in
-    let n = g.P.Naming.size in
-    let m = g.P.Naming.limit in
-    let is : c.into_seat.result.me.0 ≡ c.in-Some-worker.worker = seat_view _ _ _ k.2 c.worker.view_is in
-    let worker : IsWorkerView n m c.in-Some-worker.worker = subst (IsWorkerView n m) c.worker.view_is i.is in
-    (inv.table, k.0 ∙ (i.table ∙ sym pool.named), k.3, omega (arith, pool.wide), merge_at _ _ _ n m _ _ _ _ _ inv.merged is worker)
+    let w = seated_moved c.worker.inside.badge c.worker.invariant.1 c.worker.view_is c.into_seat.ensures in
+    (inv.table, w.table ∙ sym pool.named, c.into_seat.ensures.3, omega (arith, pool.wide), merge_at _ _ _ g.P.Naming.size g.P.Naming.limit _ _ _ _ _ inv.merged w.is w.known)
 
 pub loop-worker-preserved : goal.loop-worker-preserved
 loop-worker-preserved g c =
     let inv = c.loop-worker.invariant in
-    let k = c.into_seat.ensures in
+    let w = seated_moved c.worker.inside.badge c.worker.invariant.1 c.worker.view_is c.into_seat.ensures in
     let j = c.join_seat.ensures in
-    let i = c.worker.invariant.1 in
-    let n = g.P.Naming.size in
-    let m = g.P.Naming.limit in
-    let is : c.into_seat.result.me.0 ≡ c.in-Some-worker.worker = seat_view _ _ _ k.2 c.worker.view_is in
-    let worker : IsWorkerView n m c.in-Some-worker.worker = subst (IsWorkerView n m) c.worker.view_is i.is in
     record {
       table = j.0 ∙ inv.table;
       carried = ap (λ x. x.1) j.2 ∙ inv.carried;
       merged = subst (IsMerged c.into_seat-seat.result.me.0 (c.loop-worker.yielded ++ c.in-Some-worker.worker ∷ [])) (ap (λ x. x.0) (sym j.2))
-          (merged_more n m c.into_seat-seat.result.me.0 c.loop-worker.yielded c.loop-worker.seat.me.0 c.into_seat.result.me.0 c.in-Some-worker.worker inv.merged is worker);
+          (merged_more g.P.Naming.size g.P.Naming.limit c.into_seat-seat.result.me.0 c.loop-worker.yielded c.loop-worker.seat.me.0 c.into_seat.result.me.0 c.in-Some-worker.worker inv.merged w.is w.known);
     }
 
 pub returns : goal.returns
 returns g c =
     let pool = c.args.self in
     let inv = c.loop-worker.invariant in
-    let first : c.into_seat-seat.result.me.0 ≡ c.in-Some.first = seat_view _ _ _ c.into_seat-seat.ensures.2 c.first.view_is in
+    let first = seated_moved c.first.inside.badge c.first.invariant.1 c.first.view_is c.into_seat-seat.ensures in
     let items = YieldsList-from_vec {s = c.into_iter-worker-iterator.result} c.pop.new.self.items (search rules) (search rules) in
     let whole : c.pop.new.self.items ≡ c.loop-worker.yielded = sym (sym (map-id c.loop-worker.yielded) ∙ (YieldsList-end items c.loop-worker.yielded c.loop-worker.worker-iterator c.loop-worker.yielded_by c.next.result c.next.new.self c.in-None.is c.next.ensures.steps).0) in
     let all : c.args.workers.items ≡ c.loop-worker.yielded ++ c.in-Some.first ∷ [] = c.in-Some.ensures.items ∙ ap (λ (l : List View). l ++ c.in-Some.first ∷ []) whole in
-    let parts = all ∙ (λ q. c.loop-worker.yielded ++ sym first q ∷ []) in
+    let parts = all ∙ (λ q. c.loop-worker.yielded ++ sym first.is q ∷ []) in
     let known = c.emptied-in_use.ensures.known in
     let back : List Handed = map (handed_in g.B.Releaser) c.emptied-in_use.result.1.items in
     record {
