@@ -1,7 +1,7 @@
 //! Cords, their bytes and their trees.
 ghost use Rattle.std.specs.Prelude.{◌≡◌, ◌↔◌, ◌+◌, ◌<◌, ◌≤◌, [], ◌∷◌, length, None, IsSome, IsTrue, IfOk, IfErr, IfSome};
 ghost use Rattle.node_edges.specs.Trees.{shape_of};
-ghost use Rattle.flat_nodes.specs.Flats.{flat_shape};
+ghost use Rattle.tree_shapes.specs.Flats.{flat_shape};
 ghost use Rattle.cord_value.specs.Workers.{Keeps, IsBalanced};
 ghost use Rattle.cord_value.specs.Refusals.{IsMakeRefused, refusal_of};
 ghost use Rattle.cord_value.specs.Views.{IsTreeOf, numbers_of, passes_of};

@@ -3,11 +3,12 @@ use Rattle.std.proofs.Common.{◌≡◌, ℕ, ◌+◌, ◌-◌, ◌<◌, List, l
 use Rattle.std.specs.Prelude.{Contains}
 use Rattle.node_forest.specs.Label.{Node}
 use Rattle.node_edges.specs.Body.{flat_node}
-use Rattle.node_edges.specs.Shape.{level, capacities}
+use Rattle.tree_shapes.specs.Shape.{level, capacities}
 use Rattle.node_edges.specs.Text.{text}
 use Rattle.node_edges.specs.Trees.{shape_of, IsFilled, IsWellFormed}
-use Rattle.flat_nodes.specs.Capacity.{capacity_for, IsLeast}
-use Rattle.flat_nodes.specs.Flats.{new_flat_node, flat_shape}
+use Rattle.tree_shapes.specs.Capacity.{capacity_for, IsLeast}
+use Rattle.tree_shapes.specs.Flats.{flat_shape}
+use Rattle.flat_nodes.specs.Flats.{new_flat_node}
 
 pub made-new : (e : Node) (own bytes : List ℕ) (room : ℕ) → e ≡ flat_node e.0.number own room → own ≡ bytes → room ≡ capacity_for (length bytes) - length bytes → e ≡ new_flat_node e.0.number bytes
 made-new e own bytes room is same rest = is ∙ (λ i. flat_node e.0.number (same i) (rest i))

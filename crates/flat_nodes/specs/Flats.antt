@@ -2,23 +2,17 @@
 use Rattle.std.specs.Prelude.{ℕ, ◌≡◌, ◌-◌, ◌<◌, List, [], ◌∷◌, ◌++◌, length}
 use Rattle.node_forest.specs.declared.kind.Kind.{Kind}
 use Rattle.node_forest.specs.declared.kind.Kind.TheVariants.{Flat}
-use Rattle.node_forest.specs.Forest.{empty}
 use Rattle.node_forest.specs.Label.{Node, number}
 use Rattle.node_edges.specs.Body.{flat_node}
-use Rattle.node_edges.specs.Shape.{Shape}
 use Rattle.pool_rule.specs.Views.{View}
 use Rattle.node_pool.specs.Answers.{noting_all, IsFull}
 use Rattle.flat_nodes.specs.declared.refusals.NodeError.{NodeError}
 use Rattle.flat_nodes.specs.declared.refusals.NodeError.TheVariants.{NoNumber, HeightLimit, Memory}
-use Rattle.flat_nodes.specs.Capacity.{capacity_for}
+use Rattle.tree_shapes.specs.Capacity.{capacity_for}
 
 -- the node of a new flat with these bytes
 abbrev pub new_flat_node : ℕ → List ℕ → Node
 new_flat_node n bytes = flat_node n bytes (capacity_for (length bytes) - length bytes)
-
--- the shape of a new flat of so many bytes
-abbrev pub flat_shape : ℕ → Shape
-flat_shape n = (record { kind = Flat; length = n; more = capacity_for n - n }, empty)
 
 -- a flat's room, 0 for what is no flat
 abbrev pub room_by : Kind → ℕ → ℕ

@@ -1,6 +1,6 @@
 //! How large a flat is made (`cord_rep_flat.h`).
 ghost use Rattle.std.specs.Prelude.{◌≡◌, ℕ, ◌≤◌};
-ghost use Rattle.flat_nodes.specs.Capacity.{capacity_for, IsLeast};
+ghost use Rattle.tree_shapes.specs.Capacity.{capacity_for};
 
 /// The capacity of a flat that is made for so many bytes.
 pub(crate) fn capacity_for(length: usize) -> usize
@@ -20,8 +20,3 @@ pub(crate) fn capacity_for(length: usize) -> usize
         _ => 4083,
     }
 }
-
-/// The capacity of a new flat is the least one that holds its bytes.
-pub fn capacities_are_least()
-    ensures { (n : ℕ) → n ≤ 4083 → IsLeast n (capacity_for n) }
-{}

@@ -3,8 +3,9 @@ ghost use Rattle.std.specs.Prelude.{◌≡◌, ◌+◌, ◌<◌, ◌≤◌, [], 
 ghost use Rattle.node_edges.specs.Text.{text};
 ghost use Rattle.node_edges.specs.Trees.{shape_of, IsWellFormed};
 ghost use Rattle.pool_rule.specs.Trades.{Trades};
-ghost use Rattle.flat_nodes.specs.Capacity.{capacity_for};
-ghost use Rattle.flat_nodes.specs.Flats.{new_flat_node, flat_shape, room_in, IsAdded, IsFlatRefused};
+ghost use Rattle.tree_shapes.specs.Capacity.{capacity_for};
+ghost use Rattle.tree_shapes.specs.Flats.{flat_shape};
+ghost use Rattle.flat_nodes.specs.Flats.{new_flat_node, room_in, IsAdded, IsFlatRefused};
 
 use crate::capacity::capacity_for;
 use crate::refusals::NodeError;

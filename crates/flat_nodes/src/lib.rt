@@ -7,7 +7,6 @@ mod refusals;
 #[cfg(test)]
 mod tests;
 
-pub use capacity::capacities_are_least;
 pub use flat::{new_flat, room_of};
 pub use node_pool::Edge;
 pub use refusals::NodeError;

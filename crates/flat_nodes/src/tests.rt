@@ -2,7 +2,6 @@
 ghost use Rattle.std.specs.Prelude.{◌≡◌, ◌<◌, ◌≤◌, length};
 ghost use Rattle.node_pool.specs.Opened.{opened_table, opened_numbers, opened_passes, opened_workers, opened_boxes};
 
-use crate::capacity::capacities_are_least;
 use crate::flat::{new_flat, room_of};
 use crate::refusals::NodeError;
 use cord_port::LogReleaser;
@@ -132,5 +131,4 @@ fn no_room_in_what_is_no_flat(rt: HostRuntime) {
     let bytes = Vec::from_slice(alloc, b"own").expect(&rt, "memory");
     let flat = Edge::new(alloc, 1, Body::Flat { bytes, room: 16 }).expect(&rt, "memory");
     assert_eq!(rt; room_of(&flat), 16);
-    capacities_are_least();
 }

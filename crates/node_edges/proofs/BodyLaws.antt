@@ -7,7 +7,7 @@ use Rattle.node_forest.specs.Label.{Node}
 use Rattle.node_edges.specs.declared.edge.Body.{Body}
 use Rattle.node_edges.specs.declared.edge.Body.TheVariants.{Flat, External, Part, Sum, Branch}
 use Rattle.node_edges.specs.Body.{HasBody, IsNodeOf, node_with}
-use Rattle.node_edges.specs.Shape.{IsSource}
+use Rattle.tree_shapes.specs.Shape.{IsSource}
 use Rattle.node_edges.specs.Text.{joined_text, text}
 use Rattle.node_edges.specs.Trees.{shape_of, IsFilled, IsTreeAt}
 use Rattle.node_edges.proofs.EdgeLaws.{joined-texts}

@@ -1,12 +1,11 @@
 -- What a node is after a change at it.
-use Rattle.std.proofs.Common.{ℕ, ◌≡◌, List, refl, ap, ◌∙◌}
+use Rattle.std.proofs.Common.{ℕ, ◌≡◌, List, refl, ap}
 use Rattle.node_forest.specs.declared.kind.Kind.{Kind}
 use Rattle.node_forest.specs.declared.kind.Kind.TheVariants.{Flat}
 use Rattle.node_forest.specs.Forest.{forest, map_forest}
-use Rattle.node_forest.specs.Label.{Label, Node}
+use Rattle.node_forest.specs.Label.{Node}
 use Rattle.node_edges.specs.Body.{IsBranchOf}
 use Rattle.node_edges.specs.Changes.{with_bytes, with_edges}
-use Rattle.node_edges.specs.Shape.{Form}
 use Rattle.node_edges.specs.Text.{text_step, joined_text, text}
 use Rattle.node_edges.specs.Trees.{form_of, more_of, shape_of}
 

@@ -11,7 +11,7 @@ use Rattle.node_forest.proofs.Maps.{trees-forest, trees-map, forest-map}
 use Rattle.node_edges.specs.declared.edge.Body.{Body}
 use Rattle.node_edges.specs.declared.edge.Body.TheVariants.{Flat, External, Part, Sum, Branch}
 use Rattle.node_edges.specs.Body.{edges_in_body, label_with, node_with, HasBody, IsNodeOf, IsBranchOf, renumbered}
-use Rattle.node_edges.specs.Shape.{level, length_of, branch_over}
+use Rattle.tree_shapes.specs.Shape.{level, length_of, branch_over}
 use Rattle.node_edges.specs.Text.{joined_text, text}
 use Rattle.node_edges.specs.Trees.{form_of, bone_of, shape_of, skeleton_of}
 

@@ -7,7 +7,7 @@ use Rattle.node_forest.specs.declared.kind.Kind.{Kind}
 use Rattle.node_forest.specs.declared.kind.Kind.TheVariants.{Flat, External, Part, Sum, Branch}
 use Rattle.node_forest.specs.Forest.{Forest, empty, grow, children, map_forest}
 use Rattle.node_forest.specs.Label.{Label, Node}
-use Rattle.node_edges.specs.Shape.{Form, level, length_of, IsSource, IsPart, IsData, IsTree, IsSum, IsRootOf}
+use Rattle.tree_shapes.specs.Shape.{Form, level, length_of, IsSource, IsPart, IsData, IsTree, IsSum, IsRootOf}
 use Rattle.node_edges.specs.Text.{text_step, joined_text, text}
 use Rattle.node_edges.specs.Trees.{form_of, shape_of, IsFilledBy, AreFilled, IsFilled, IsTreeAt, IsWellFormed}
 use Rattle.node_edges.proofs.EdgeLaws.{children-shape, sum-lengths}

@@ -10,22 +10,11 @@ use Rattle.node_forest.specs.declared.kind.Kind.TheVariants.{Flat, External, Par
 use Rattle.node_forest.specs.Forest.{Forest, empty, grow, trees, forest, children}
 use Rattle.node_forest.specs.Label.{Label, Node}
 use Rattle.node_edges.specs.Body.{IsBranchOf}
-use Rattle.node_edges.specs.Shape.{Shape, level, level_step, IsData, IsNode}
+use Rattle.tree_shapes.specs.Shape.{level, level_step, IsNode}
 use Rattle.node_edges.specs.Text.{text_step, joined_text, text, data_edges_at}
 use Rattle.node_edges.specs.Trees.{more_of, shape_of, AreFilled, IsFilled, IsTreeAt}
+use Rattle.tree_shapes.proofs.ShapeLaws.{level-node}
 use Rattle.node_edges.proofs.EdgeLaws.{children-shape, length-shape, children-branch, sum-lengths, level-branch, joined-children}
-
-level-data : (k : Kind) (s : Shape) (h : ℕ) → IsData k s → level_step k h ≡ 0
-level-data Flat s h d = refl
-level-data External s h d = refl
-level-data Part s h d = refl
-level-data Sum s h d = absurd d
-level-data Branch s h d = absurd d
-
-pub level-node : (l : ℕ) (s : Shape) → IsNode l s → level s ≡ l
-unfolding level
-level-node zero s h = level-data s.0.kind s s.0.more h
-level-node (suc l) s h = h.at_level
 
 pub All-tail : (P : Node → Type 0) (x : Node) (xs : List Node) → All P (x ∷ xs) → All P xs
 All-tail P x xs all = λ k d h. let lt : suc k < length (x ∷ xs) = omega arith in all (suc k) d lt

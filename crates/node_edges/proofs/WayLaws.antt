@@ -1,5 +1,5 @@
 -- Each edge of a node has as many Branches fewer on its ways down as make up for the edges beside it.
-use Rattle.std.proofs.Common.{ℕ, zero, suc, ◌≡◌, ◌+◌, ◌*◌, ◌<◌, ◌≤◌, max, List, [], ◌∷◌, length, get_or, sum_by, refl, sym, ap, subst, arith}
+use Rattle.std.proofs.Common.{ℕ, zero, suc, ◌≡◌, ◌+◌, ◌*◌, ◌<◌, ◌≤◌, List, [], ◌∷◌, length, get_or, sum_by, refl, sym, ap, subst, arith}
 use Rattle.std.specs.List.{All}
 use Rattle.std.specs.Prelude.{Some, None}
 use Rattle.std.proofs.lemmas.List.Sums.{sum_by-append}
@@ -11,7 +11,7 @@ use Rattle.node_forest.proofs.Maps.{trees-forest}
 use Rattle.node_edges.specs.declared.edge.Body.{Body}
 use Rattle.node_edges.specs.declared.edge.Body.TheVariants.{Flat, External, Part, Sum, Branch}
 use Rattle.node_edges.specs.Body.{node_with, HasFewEdges, IsNodeOf}
-use Rattle.node_edges.specs.Shape.{Form, level, IsSource, IsPart, IsData, IsTree, IsSum, IsRootOf}
+use Rattle.tree_shapes.specs.Shape.{Form, level, IsSource, IsPart, IsData, IsTree, IsSum, IsRootOf}
 use Rattle.node_edges.specs.Trees.{form_of, shape_of, IsFilled, IsTreeAt, IsWellFormed}
 use Rattle.node_edges.specs.Ways.{way_step, most_branches, branches_down}
 use Rattle.node_edges.proofs.TreeLaws.{edges-trees}

@@ -1,7 +1,6 @@
 -- The definitions of this crate.
 pub mod Body
 pub mod Falls
-pub mod Shape
 pub mod Text
 pub mod Trees
 pub mod Changes

@@ -4,7 +4,7 @@ use Rattle.node_forest.specs.declared.kind.Kind.{Kind}
 use Rattle.node_forest.specs.declared.kind.Kind.TheVariants.{Flat, External}
 use Rattle.node_forest.specs.Forest.{Forest, empty, grow, map_tree}
 use Rattle.node_forest.specs.Label.{Label, Node}
-use Rattle.node_edges.specs.Shape.{Form, Shape, level, IsNode, IsRoot}
+use Rattle.tree_shapes.specs.Shape.{Form, Shape, level, IsNode, IsRoot}
 
 -- a slot is no part of a shape
 abbrev pub more_of : Kind → ℕ → ℕ

@@ -1,7 +1,7 @@
 -- Which capacity is the first that holds the bytes.
 use Rattle.std.proofs.Common.{arith}
 use Rattle.std.proofs.lemmas.Bool.Decides.{nat_tests}
-use Rattle.flat_nodes.specs.Capacity.{capacity_for}
+use Rattle.tree_shapes.specs.Capacity.{capacity_for}
 use Rattle.flat_nodes.proofs.capacity.capacity_for.Goals as goal
 
 pub returns-in-0-to-19-clause-capacity : goal.returns-in-0-to-19-clause-capacity

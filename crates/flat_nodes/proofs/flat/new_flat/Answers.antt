@@ -1,6 +1,6 @@
 -- What is made is a new flat.
 use Rattle.std.proofs.Common.{◌-◌, ℕ, length, ap}
-use Rattle.flat_nodes.proofs.Capacities.{capacity_is_least}
+use Rattle.tree_shapes.proofs.Capacities.{capacity_is_least}
 use Rattle.flat_nodes.proofs.Flats.{made-new, text-new, shape-new, formed-new}
 use Rattle.flat_nodes.proofs.flat.new_flat.Goals as goal
 

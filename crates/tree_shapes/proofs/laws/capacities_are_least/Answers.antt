@@ -1,6 +1,6 @@
 -- The capacities ascend, and the last holds as many bytes as any flat has.
-use Rattle.flat_nodes.proofs.Capacities.{capacity_is_least}
-use Rattle.flat_nodes.proofs.capacity.capacities_are_least.Goals as goal
+use Rattle.tree_shapes.proofs.Capacities.{capacity_is_least}
+use Rattle.tree_shapes.proofs.laws.capacities_are_least.Goals as goal
 
 pub returns : goal.returns
 returns c = capacity_is_least

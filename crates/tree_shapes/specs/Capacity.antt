@@ -1,6 +1,6 @@
 -- Which capacity a new flat has.
 use Rattle.std.specs.Prelude.{ℕ, ◌≤◌, nat_lt, if◌then◌else◌, List, [], ◌∷◌, Contains}
-use Rattle.node_edges.specs.Shape.{capacities}
+use Rattle.tree_shapes.specs.Shape.{capacities}
 
 -- the first of these that holds so many bytes
 abbrev pub first_with : ℕ → List ℕ → ℕ

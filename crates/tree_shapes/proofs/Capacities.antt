@@ -4,8 +4,8 @@ use Rattle.std.specs.Prelude.{if◌then◌else◌, Contains}
 use Rattle.std.proofs.lemmas.Bool.{lt-ltb, le-ltb}
 use mathlib.Core.Logic.{dite}
 use native.Mathlib.Decide.{dec_lt}
-use Rattle.node_edges.specs.Shape.{capacities}
-use Rattle.flat_nodes.specs.Capacity.{first_with, capacity_for, IsLeast}
+use Rattle.tree_shapes.specs.Shape.{capacities}
+use Rattle.tree_shapes.specs.Capacity.{first_with, capacity_for, IsLeast}
 
 pub passed_over : (n c : ℕ) (cs : List ℕ) → c < n → first_with n (c ∷ cs) ≡ first_with n cs
 passed_over n c cs h = ap (λ (b : Bool). if b then first_with n cs else c) (lt-ltb c n h)

@@ -1,0 +1,8 @@
+-- The lemmas of this crate.
+pub mod Capacities
+pub mod ShapeLaws
+pub mod GrowthLaws
+pub mod RoomLaws
+pub mod PieceLaws
+pub mod NodeLaws
+pub mod PartLaws

@@ -1,0 +1,8 @@
+-- The definitions of this crate.
+pub mod Shape
+pub mod Capacity
+pub mod Growth
+pub mod Room
+pub mod Pieces
+pub mod Flats
+pub mod Nodes

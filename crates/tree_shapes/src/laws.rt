@@ -1,0 +1,49 @@
+//! What the rules by which trees grow promise, of every shape.
+ghost use Rattle.std.specs.Prelude.{◌≡◌, ℕ, suc, ◌+◌, ◌*◌, ◌<◌, ◌≤◌, List, ◌++◌, length, sum_by, All};
+ghost use Rattle.node_forest.specs.declared.side.Side.{Side};
+ghost use Rattle.tree_shapes.specs.Capacity.{capacity_for, IsLeast};
+ghost use Rattle.tree_shapes.specs.Growth.{placed, wrapped, with_all};
+ghost use Rattle.tree_shapes.specs.Nodes.{nodes_in, IsLeaf};
+ghost use Rattle.tree_shapes.specs.Pieces.{near_size, IsParted};
+ghost use Rattle.tree_shapes.specs.Room.{most_under, room_at, room_outside, filled, packed, laid, IsLift, IsRooted};
+ghost use Rattle.tree_shapes.specs.Shape.{Shape, level, length_of, IsNode};
+
+/// The capacity of a new flat is the least one that holds its bytes.
+pub fn capacities_are_least()
+    ensures { (n : ℕ) → n ≤ 4083 → IsLeast n (capacity_for n) }
+{}
+
+/// Data edges added one after another make the tree that takes them in under as many new roots as they need.
+pub fn many_are_added_as_they_are_laid()
+    ensures { (side : Side) (j : ℕ) (t : Shape) (xs : List Shape) → IsNode (level t) t → All (IsNode 0) xs
+        → IsLift side t (length xs) j → with_all side t xs ≡ filled side (level t + j) (wrapped j t) xs }
+{}
+
+/// Where the edges so far are full, a group of data edges comes under one node beside them.
+pub fn groups_come_under_one_node()
+    ensures { (side : Side) (l : ℕ) (es zs ys : List Shape) → room_outside side l es ≡ 0 → length es < 6
+        → All (IsNode l) es → 0 < length zs → All (IsNode 0) zs → length zs ≤ most_under l
+        → laid side l es (zs ++ ys) ≡ laid side l (placed side es (packed side l zs)) ys }
+{}
+
+/// A tree to which data edges are added stays well formed but for its height, has their lengths, and needs a new root where it
+/// has no room.
+pub fn trees_that_grow_stay_trees()
+    ensures rooted { (side : Side) (t : Shape) (xs : List Shape) → IsRooted t → All (IsNode 0) xs → IsRooted (with_all side t xs) }
+    ensures lengths { (side : Side) (t : Shape) (xs : List Shape) → IsRooted t → All (IsNode 0) xs
+        → length_of (with_all side t xs) ≡ length_of t + sum_by length_of xs }
+    ensures high { (side : Side) (j : ℕ) (t : Shape) (xs : List Shape) → IsNode (level t) t → All (IsNode 0) xs
+        → room_at side (level t + j) (wrapped j t) < length xs → level t + j < level (with_all side t xs) }
+{}
+
+/// A new tree has at most twice as many nodes as data edges, where each of these is one node.
+pub fn new_trees_have_few_nodes()
+    ensures { (side : Side) (h : ℕ) (zs : List Shape) → All IsLeaf zs → 0 < length zs → length zs ≤ most_under h
+        → ((i : ℕ) → h ≡ suc i → most_under i < length zs) → nodes_in (packed side h zs) ≤ 2 * length zs }
+{}
+
+/// A text is cut in two where so many pieces have room at a side of a tree: the pieces of both are its pieces, those that come
+/// first first.
+pub fn texts_are_parted_at_pieces()
+    ensures { (side : Side) (n most : ℕ) → IsParted side n most (near_size side n most) }
+{}

@@ -1,0 +1,10 @@
+//! Shapes of trees: kinds, lengths and what each kind adds, without numbers and bytes, and the rules by which they change.
+//! The code does nothing; the definitions stand in specs/, and each function's contract is a law of them.
+#![tactic(auto)]
+
+mod laws;
+
+pub use laws::{
+    capacities_are_least, groups_come_under_one_node, many_are_added_as_they_are_laid,
+    new_trees_have_few_nodes, texts_are_parted_at_pieces, trees_that_grow_stay_trees,
+};
