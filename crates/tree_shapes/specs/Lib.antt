@@ -6,3 +6,8 @@ pub mod Room
 pub mod Pieces
 pub mod Flats
 pub mod Nodes
+pub mod Merge
+pub mod Keep
+pub mod Filling
+pub mod Sums
+pub mod Cords

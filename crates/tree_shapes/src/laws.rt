@@ -1,5 +1,5 @@
 //! What the rules by which trees grow promise, of every shape.
-ghost use Rattle.std.specs.Prelude.{◌≡◌, ℕ, suc, ◌+◌, ◌*◌, ◌<◌, ◌≤◌, List, ◌++◌, length, sum_by, All};
+ghost use Rattle.std.specs.Prelude.{◌≡◌, ℕ, suc, ◌+◌, ◌*◌, ◌<◌, ◌≤◌, List, [], ◌∷◌, ◌++◌, length, map, sum_by, All};
 ghost use Rattle.node_forest.specs.declared.side.Side.{Side};
 ghost use Rattle.tree_shapes.specs.Capacity.{capacity_for, IsLeast};
 ghost use Rattle.tree_shapes.specs.Growth.{placed, wrapped, with_all};

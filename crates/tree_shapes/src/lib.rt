@@ -2,8 +2,10 @@
 //! The code does nothing; the definitions stand in specs/, and each function's contract is a law of them.
 #![tactic(auto)]
 
+mod examples;
 mod laws;
 
+pub use examples::{cut_cords_have_these_shapes, new_and_grown_cords_have_these_shapes};
 pub use laws::{
     capacities_are_least, groups_come_under_one_node, many_are_added_as_they_are_laid,
     new_trees_have_few_nodes, texts_are_parted_at_pieces, trees_that_grow_stay_trees,
