@@ -5,6 +5,7 @@
 mod bytes;
 mod change;
 mod edge;
+mod edges;
 mod edit;
 #[cfg(test)]
 mod edit_tests;

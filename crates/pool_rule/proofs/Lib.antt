@@ -1,6 +1,7 @@
 -- The lemmas of this crate.
 pub mod Worlds
 pub mod Taken
+pub mod Gains
 pub mod Holds
 pub mod Steps
 pub mod Allowed

@@ -1,10 +1,10 @@
 -- How trades of holds follow each other.
-use Rattle.std.proofs.Common.{ℕ, ◌≡◌, ◌+◌, ◌<◌, List, [], ◌∷◌, ◌++◌, length, sum_by, refl, sym, ap, ◌∙◌, get_or, take, drop, take-append-drop, arith}
+use Rattle.std.proofs.Common.{ℕ, ◌≡◌, ◌+◌, ◌<◌, List, [], ◌∷◌, ◌++◌, length, sum_by, refl, sym, ap, subst, ◌∙◌, get_or, take, drop, take-append-drop, arith}
 use Rattle.std.specs.List.{Contains}
 use Rattle.std.proofs.lemmas.List.Sums.{sum_by-append, sum_by_more, sum_by-drop_more}
 use Rattle.node_forest.specs.Forest.{children}
 use Rattle.node_forest.specs.Label.{Node}
-use Rattle.pool_rule.specs.Trades.{Trades, HasHolds, IsWithin, itself, below, Stands}
+use Rattle.pool_rule.specs.Trades.{Trades, SameHolds, HasHolds, IsWithin, itself, below, Stands, AreSpare}
 
 -- a list's length is a weight too
 sum_by-one : (xs : List Node) → sum_by (λ _. 1) xs ≡ length xs
@@ -13,6 +13,9 @@ sum_by-one (x ∷ xs) = omega (arith, sum_by-append (λ (_ : Node). 1) (x ∷ []
 
 pub trade : (old spent gained new : List Node) → ((f : Node → ℕ) → sum_by f new + sum_by f spent ≡ sum_by f old + sum_by f gained) → Trades old spent gained new
 trade old spent gained new w = record { weighs = w; count = omega (arith, w (λ _. 1), sum_by-one old, sum_by-one spent, sum_by-one gained, sum_by-one new) }
+
+pub Trades-same : (a b : List Node) → b ≡ a → SameHolds a b
+Trades-same a b e = trade a [] [] b (λ f. omega (arith, ap (sum_by f) e))
 
 -- what is held beside what was used up stays held
 pub HasHolds-kept : (old gained new es : List Node) → Trades old [] gained new → HasHolds old es → HasHolds new es
@@ -69,3 +72,17 @@ HasHolds-first holds a b h = record { weighs = λ f. omega (arith, h.weighs f) }
 
 pub HasHolds-second : (holds : List Node) (a b : Node) → HasHolds holds (a ∷ b ∷ []) → HasHolds holds (b ∷ [])
 HasHolds-second holds a b h = record { weighs = λ f. omega (arith, h.weighs f) }
+
+-- ---- holds that were shared are left again
+pub AreSpare-held : (holds es : List Node) → AreSpare holds es → HasHolds holds es
+AreSpare-held holds es s = record { weighs = λ f. omega (arith, s.traded.weighs f) }
+
+-- after some of the edges, and one more, were left each of them still stands
+pub AreSpare-stands : (a b c es gained : List Node) (i : ℕ) (e : Node) → i < length es → e ≡ get_or es i e → AreSpare a es → Trades a (take i es) [] b → Trades b (e ∷ []) gained c → Stands c e
+AreSpare-stands a b c es gained i e h at spare p q =
+    let s : Stands spare.rest e = subst (Stands spare.rest) (sym at) (spare.stand i e h) in
+    record {
+      root = s.root;
+      held = record { weighs = λ f. omega (arith, s.held.weighs f, spare.traded.weighs f, p.weighs f, q.weighs f, sum_by-parts f es i, sum_by-drop_more f es i e h, ap f at) };
+      within = s.within;
+    }

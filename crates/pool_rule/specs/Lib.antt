@@ -9,3 +9,4 @@ pub mod Trades
 pub mod Marks
 pub mod EdgeMarks
 pub mod Ends
+pub mod Gains

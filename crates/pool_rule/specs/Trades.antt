@@ -1,5 +1,5 @@
 -- Direct holds as lists in which only the number of occurrences counts, for those who use the pool.
-use Rattle.std.specs.Prelude.{ℕ, ◌≡◌, ◌+◌, ◌≤◌, List, [], ◌∷◌, sum_by, length, Contains}
+use Rattle.std.specs.Prelude.{ℕ, ◌≡◌, ◌+◌, ◌≤◌, List, [], ◌∷◌, sum_by, length, All, Contains}
 use Rattle.node_forest.specs.Forest.{children}
 use Rattle.node_forest.specs.Label.{Node}
 
@@ -26,3 +26,9 @@ pub record Stands (holds : List Node) (e : Node) : Type 0 where
   pub root : Node
   pub held : HasHolds holds (root ∷ [])
   pub within : IsWithin e root
+
+-- the edges are direct holds beside others, in whose trees each of them stands
+pub record AreSpare (holds es : List Node) : Type 0 where
+  pub rest : List Node
+  pub traded : Trades rest [] es holds
+  pub stand : All (Stands rest) es
