@@ -6,3 +6,5 @@ pub mod RoomLaws
 pub mod PieceLaws
 pub mod NodeLaws
 pub mod PartLaws
+pub mod FlatLaws
+pub mod MergeLaws

@@ -1,10 +1,11 @@
 -- How two trees are merged at a side.
-use Rattle.std.specs.Prelude.{◌+◌, nat_eq, nat_le, if◌then◌else◌, Option, Some, None, length}
+use Rattle.std.specs.Prelude.{◌≡◌, ◌+◌, ◌≤◌, max, nat_eq, nat_le, if◌then◌else◌, Option, Some, None, length}
 use Rattle.node_forest.specs.declared.side.Side.{Side}
 use Rattle.node_forest.specs.declared.side.Side.TheVariants.{Front, Back}
 use Rattle.node_forest.specs.Forest.{children}
 use Rattle.tree_shapes.specs.Growth.{beside, with_edges, added_by}
-use Rattle.tree_shapes.specs.Shape.{Shape, level}
+use Rattle.tree_shapes.specs.Room.{IsRooted}
+use Rattle.tree_shapes.specs.Shape.{Shape, level, length_of}
 
 abbrev pub across : Side → Side
 across Front = Back
@@ -28,3 +29,10 @@ joined side t x =
     if nat_le (level x) (level t)
     then added_by (meeting side x) side t x
     else added_by (meeting (across side) t) (across side) x t
+
+-- a tree of both lengths, at most one level above the higher of the two
+pub record Joins (t x c : Shape) : Type 0 where
+  pub root : IsRooted c
+  pub all : length_of c ≡ length_of t + length_of x
+  pub no_lower : max (level t) (level x) ≤ level c
+  pub rises : level c ≤ max (level t) (level x) + 1

@@ -1,12 +1,15 @@
 //! What the rules by which trees grow promise, of every shape.
-ghost use Rattle.std.specs.Prelude.{◌≡◌, ℕ, suc, ◌+◌, ◌*◌, ◌<◌, ◌≤◌, List, [], ◌∷◌, ◌++◌, length, map, sum_by, All};
+ghost use Rattle.std.specs.Prelude.{◌≡◌, ◌≢◌, ◌↔◌, ℕ, suc, ◌+◌, ◌*◌, ◌<◌, ◌≤◌, List, [], ◌∷◌, ◌++◌, length, map, sum_by, All};
+ghost use Rattle.node_forest.specs.declared.kind.Kind.TheVariants.{Sum};
 ghost use Rattle.node_forest.specs.declared.side.Side.{Side};
 ghost use Rattle.tree_shapes.specs.Capacity.{capacity_for, IsLeast};
+ghost use Rattle.tree_shapes.specs.Flats.{piece_count, new_shape, with_bytes};
 ghost use Rattle.tree_shapes.specs.Growth.{placed, wrapped, with_all};
+ghost use Rattle.tree_shapes.specs.Merge.{across, joined, Joins};
 ghost use Rattle.tree_shapes.specs.Nodes.{nodes_in, IsLeaf};
 ghost use Rattle.tree_shapes.specs.Pieces.{near_size, IsParted};
 ghost use Rattle.tree_shapes.specs.Room.{most_under, room_at, room_outside, filled, packed, laid, IsLift, IsRooted};
-ghost use Rattle.tree_shapes.specs.Shape.{Shape, level, length_of, IsNode};
+ghost use Rattle.tree_shapes.specs.Shape.{Shape, level, length_of, IsNode, IsTree, IsRoot};
 
 /// The capacity of a new flat is the least one that holds its bytes.
 pub fn capacities_are_least()
@@ -46,4 +49,31 @@ pub fn new_trees_have_few_nodes()
 /// first first.
 pub fn texts_are_parted_at_pieces()
     ensures { (side : Side) (n most : ℕ) → IsParted side n most (near_size side n most) }
+{}
+
+/// A new tree of a text is well formed, has its length, at most twice as many nodes as the text has pieces, and is never too high.
+pub fn new_trees_are_well_formed()
+    ensures formed { (n : ℕ) → 0 < n → n ≤ 2147483647 → IsTree (new_shape n) }
+    ensures length { (n : ℕ) → 0 < n → length_of (new_shape n) ≡ n }
+    ensures nodes { (n : ℕ) → 0 < n → nodes_in (new_shape n) ≤ 2 * piece_count n }
+    ensures low { (n : ℕ) → 0 < n → n ≤ 2147483647 → level (new_shape n) ≤ 8 }
+{}
+
+/// A tree to which bytes are added stays well formed but for its height, and has so many bytes more.
+pub fn bytes_are_added()
+    ensures rooted { (side : Side) (t : Shape) (n : ℕ) → IsRooted t → IsRooted (with_bytes side t n) }
+    ensures length { (side : Side) (t : Shape) (n : ℕ) → IsRooted t → length_of (with_bytes side t n) ≡ length_of t + n }
+{}
+
+/// A well formed root that is no Sum is exactly a tree: a node of its level, which is at most 12, with 2 edges or more where it is a
+/// Branch.
+pub fn roots_without_sums_are_trees()
+    ensures { (s : Shape) → (IsRoot s × (s.0.kind ≢ Sum)) ↔ IsTree s }
+{}
+
+/// Two trees that are merged are one of both lengths, well formed but for its height, and at most one level above the higher of
+/// the two. To merge a tree in front is to merge the other behind it.
+pub fn trees_are_merged()
+    ensures joins { (side : Side) (t x : Shape) → IsRooted t → IsRooted x → Joins t x (joined side t x) }
+    ensures across { (side : Side) (t x : Shape) → joined side t x ≡ joined (across side) x t }
 {}
