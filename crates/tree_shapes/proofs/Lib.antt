@@ -8,3 +8,5 @@ pub mod NodeLaws
 pub mod PartLaws
 pub mod FlatLaws
 pub mod MergeLaws
+pub mod KeepLaws
+pub mod RangeLaws

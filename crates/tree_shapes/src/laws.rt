@@ -5,6 +5,7 @@ ghost use Rattle.node_forest.specs.declared.side.Side.{Side};
 ghost use Rattle.tree_shapes.specs.Capacity.{capacity_for, IsLeast};
 ghost use Rattle.tree_shapes.specs.Flats.{piece_count, new_shape, with_bytes};
 ghost use Rattle.tree_shapes.specs.Growth.{placed, wrapped, with_all};
+ghost use Rattle.tree_shapes.specs.Keep.{keep, kept};
 ghost use Rattle.tree_shapes.specs.Merge.{across, joined, Joins};
 ghost use Rattle.tree_shapes.specs.Nodes.{nodes_in, IsLeaf};
 ghost use Rattle.tree_shapes.specs.Pieces.{near_size, IsParted};
@@ -76,4 +77,25 @@ pub fn roots_without_sums_are_trees()
 pub fn trees_are_merged()
     ensures joins { (side : Side) (t x : Shape) → IsRooted t → IsRooted x → Joins t x (joined side t x) }
     ensures across { (side : Side) (t x : Shape) → joined side t x ≡ joined (across side) x t }
+{}
+
+/// What is kept of a node is a node of its level, and has the range's length. All of it is the node itself. A range of what was
+/// kept is a range of the node, with the starts added.
+pub fn ranges_are_kept()
+    ensures node { (l : ℕ) (s : Shape) (start n : ℕ) → IsNode l s → 0 < n → start + n ≤ length_of s → IsNode l (keep l s start n) }
+    ensures length { (l : ℕ) (s : Shape) (start n : ℕ) → IsNode l s → 0 < n → start + n ≤ length_of s
+        → length_of (keep l s start n) ≡ n }
+    ensures whole { (l : ℕ) (s : Shape) (start n : ℕ) → n ≡ length_of s → keep l s start n ≡ s }
+    ensures again { (l : ℕ) (s : Shape) (a n b m : ℕ) → IsNode l s → 0 < m → b + m ≤ n → a + n ≤ length_of s
+        → keep l (keep l s a n) b m ≡ keep l s (a + b) m }
+{}
+
+/// The same with roots of one edge dropped: what is kept of a tree is a tree, well formed and no higher.
+pub fn ranges_of_trees_are_trees()
+    ensures rooted { (t : Shape) (start n : ℕ) → IsRooted t → 0 < n → start + n ≤ length_of t → IsRooted (kept t start n) }
+    ensures length { (t : Shape) (start n : ℕ) → IsRooted t → 0 < n → start + n ≤ length_of t → length_of (kept t start n) ≡ n }
+    ensures low { (t : Shape) (start n : ℕ) → IsRooted t → 0 < n → start + n ≤ length_of t → level (kept t start n) ≤ level t }
+    ensures whole { (t : Shape) (start n : ℕ) → IsRooted t → n ≡ length_of t → kept t start n ≡ t }
+    ensures again { (t : Shape) (a n b m : ℕ) → IsRooted t → 0 < m → b + m ≤ n → a + n ≤ length_of t
+        → kept (kept t a n) b m ≡ kept t (a + b) m }
 {}
