@@ -10,3 +10,4 @@ pub mod FlatLaws
 pub mod MergeLaws
 pub mod KeepLaws
 pub mod RangeLaws
+pub mod FillLaws

@@ -1,11 +1,12 @@
 //! What the rules by which trees grow promise, of every shape.
-ghost use Rattle.std.specs.Prelude.{◌≡◌, ◌≢◌, ◌↔◌, ℕ, suc, ◌+◌, ◌*◌, ◌<◌, ◌≤◌, List, [], ◌∷◌, ◌++◌, length, map, sum_by, All};
+ghost use Rattle.std.specs.Prelude.{◌≡◌, ◌≢◌, ◌↔◌, Bool, ℕ, suc, ◌+◌, ◌*◌, ◌<◌, ◌≤◌, List, [], ◌∷◌, ◌++◌, length, map, sum_by, All};
 ghost use Rattle.node_forest.specs.declared.kind.Kind.TheVariants.{Sum};
 ghost use Rattle.node_forest.specs.declared.side.Side.{Side};
 ghost use Rattle.tree_shapes.specs.Capacity.{capacity_for, IsLeast};
+ghost use Rattle.tree_shapes.specs.Filling.{with_bytes_filling};
 ghost use Rattle.tree_shapes.specs.Flats.{piece_count, new_shape, with_bytes};
 ghost use Rattle.tree_shapes.specs.Growth.{placed, wrapped, with_all};
-ghost use Rattle.tree_shapes.specs.Keep.{keep, kept};
+ghost use Rattle.tree_shapes.specs.Keep.{keep, kept, kept_in_front};
 ghost use Rattle.tree_shapes.specs.Merge.{across, joined, Joins};
 ghost use Rattle.tree_shapes.specs.Nodes.{nodes_in, IsLeaf};
 ghost use Rattle.tree_shapes.specs.Pieces.{near_size, IsParted};
@@ -98,4 +99,16 @@ pub fn ranges_of_trees_are_trees()
     ensures whole { (t : Shape) (start n : ℕ) → IsRooted t → n ≡ length_of t → kept t start n ≡ t }
     ensures again { (t : Shape) (a n b m : ℕ) → IsRooted t → 0 < m → b + m ≤ n → a + n ≤ length_of t
         → kept (kept t a n) b m ≡ kept t (a + b) m }
+{}
+
+/// Whether or not the last flat's room is filled first, and whether or not the last flat is shortened, the tree stays well formed
+/// but for its height, and has the length that is asked for.
+pub fn last_flats_are_filled_or_shortened()
+    ensures filled { (t : Shape) (n : ℕ) → IsRooted t → IsRooted (with_bytes_filling t n) }
+    ensures filled_length { (t : Shape) (n : ℕ) → IsRooted t → length_of (with_bytes_filling t n) ≡ length_of t + n }
+    ensures cut { (shortens : Bool) (t : Shape) (n : ℕ) → IsRooted t → 0 < n → n ≤ length_of t → IsRooted (kept_in_front shortens t n) }
+    ensures cut_length { (shortens : Bool) (t : Shape) (n : ℕ) → IsRooted t → 0 < n → n ≤ length_of t
+        → length_of (kept_in_front shortens t n) ≡ n }
+    ensures cut_low { (shortens : Bool) (t : Shape) (n : ℕ) → IsRooted t → 0 < n → n ≤ length_of t
+        → level (kept_in_front shortens t n) ≤ level t }
 {}

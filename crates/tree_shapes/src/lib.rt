@@ -8,7 +8,8 @@ mod laws;
 pub use examples::{cut_cords_have_these_shapes, new_and_grown_cords_have_these_shapes};
 pub use laws::{
     bytes_are_added, capacities_are_least, groups_come_under_one_node,
-    many_are_added_as_they_are_laid, new_trees_are_well_formed, new_trees_have_few_nodes,
-    ranges_are_kept, ranges_of_trees_are_trees, roots_without_sums_are_trees,
-    texts_are_parted_at_pieces, trees_are_merged, trees_that_grow_stay_trees,
+    last_flats_are_filled_or_shortened, many_are_added_as_they_are_laid, new_trees_are_well_formed,
+    new_trees_have_few_nodes, ranges_are_kept, ranges_of_trees_are_trees,
+    roots_without_sums_are_trees, texts_are_parted_at_pieces, trees_are_merged,
+    trees_that_grow_stay_trees,
 };
