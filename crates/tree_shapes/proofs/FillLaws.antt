@@ -124,7 +124,7 @@ and-split : (a b : Bool) → a && b ≡ false → (a ≡ true) → b ≡ false
 and-split true b e h = e
 and-split false b e h = absurd (cc)
 
-kept-is : (t : Shape) (start n : ℕ) → IsRooted t → 0 < n → start + n ≤ length_of t → IsKept t n (kept t start n)
+pub kept-is : (t : Shape) (start n : ℕ) → IsRooted t → 0 < n → start + n ≤ length_of t → IsKept t n (kept t start n)
 kept-is t start n root some fits =
     let k = kept-lowered t start n root.node some fits in
     record { root = k.root; long = kept-length t start n root.node some fits; low = k.low }

@@ -11,3 +11,5 @@ pub mod MergeLaws
 pub mod KeepLaws
 pub mod RangeLaws
 pub mod FillLaws
+pub mod HeightLaws
+pub mod CordLaws

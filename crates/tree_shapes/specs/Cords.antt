@@ -10,6 +10,7 @@ use Rattle.tree_shapes.specs.Filling.{with_bytes_filling}
 use Rattle.tree_shapes.specs.Flats.{flat_shape, new_shape, with_bytes}
 use Rattle.tree_shapes.specs.Keep.{kept, kept_in_front}
 use Rattle.tree_shapes.specs.Merge.{joined}
+use Rattle.tree_shapes.specs.Room.{IsRooted}
 use Rattle.tree_shapes.specs.Shape.{Shape, level, length_of, IsRoot}
 use Rattle.tree_shapes.specs.Sums.{skipped, sum_in, sum_over}
 
@@ -38,6 +39,15 @@ IsTreeFor n (Some s) = IsRoot s × (length_of s ≡ n) × ((most_inline < n) ⊎
 -- there is a tree exactly where there are more than 15 bytes or a sum; it is well formed, and of so many bytes
 abbrev pub IsCordShape : CordShape → Type 0
 IsCordShape c = IsTreeFor c.size c.tree
+
+-- What a change leaves: no Sum at the root, a tree exactly where there are more than 15 bytes, of so many bytes, and well formed but
+-- for its height.
+abbrev pub IsTreeWithoutSum : ℕ → Option Shape → Type 0
+IsTreeWithoutSum n None = n ≤ most_inline
+IsTreeWithoutSum n (Some t) = IsRooted t × (length_of t ≡ n) × (most_inline < n)
+
+abbrev pub IsChanged : ℕ → CordShape → Type 0
+IsChanged n c = (c.size ≡ n) × IsTreeWithoutSum n c.tree
 
 -- a change trades a Sum at the root for what lies under it
 abbrev pub without_sum : Option Shape → Option Shape

@@ -5,7 +5,7 @@ ghost use Rattle.node_forest.specs.declared.side.Side.{Side};
 ghost use Rattle.tree_shapes.specs.Capacity.{capacity_for, IsLeast};
 ghost use Rattle.tree_shapes.specs.Filling.{with_bytes_filling};
 ghost use Rattle.tree_shapes.specs.Flats.{piece_count, new_shape, with_bytes};
-ghost use Rattle.tree_shapes.specs.Growth.{placed, wrapped, with_all};
+ghost use Rattle.tree_shapes.specs.Growth.{placed, wrapped, added, with_all};
 ghost use Rattle.tree_shapes.specs.Keep.{keep, kept, kept_in_front};
 ghost use Rattle.tree_shapes.specs.Merge.{across, joined, Joins};
 ghost use Rattle.tree_shapes.specs.Nodes.{nodes_in, IsLeaf};
@@ -111,4 +111,24 @@ pub fn last_flats_are_filled_or_shortened()
         → length_of (kept_in_front shortens t n) ≡ n }
     ensures cut_low { (shortens : Bool) (t : Shape) (n : ℕ) → IsRooted t → 0 < n → n ≤ length_of t
         → level (kept_in_front shortens t n) ≤ level t }
+{}
+
+/// A node added to a tree that is no lower leaves a tree of both lengths, well formed but for its height, and at most one level
+/// higher.
+pub fn nodes_are_added()
+    ensures rooted { (side : Side) (t x : Shape) → IsRooted t → IsNode (level x) x → level x ≤ level t → IsRooted (added side t x) }
+    ensures length { (side : Side) (t x : Shape) → IsRooted t → IsNode (level x) x → level x ≤ level t
+        → length_of (added side t x) ≡ length_of t + length_of x }
+    ensures no_lower { (side : Side) (t x : Shape) → IsRooted t → IsNode (level x) x → level x ≤ level t
+        → level t ≤ level (added side t x) }
+    ensures rises { (side : Side) (t x : Shape) → IsRooted t → IsNode (level x) x → level x ≤ level t
+        → level (added side t x) ≤ level t + 1 }
+{}
+
+/// A tree never gets lower while nodes are added to it. So where the last of them needs no Branch of height 12, none before it does,
+/// and the height can be known before anything is done.
+pub fn trees_never_get_lower()
+    ensures many { (side : Side) (t : Shape) (xs ys : List Shape) → IsRooted t → All (IsNode 0) xs → All (IsNode 0) ys
+        → level (with_all side t xs) ≤ level (with_all side t (xs ++ ys)) }
+    ensures bytes { (side : Side) (t : Shape) (n : ℕ) → IsRooted t → level t ≤ level (with_bytes side t n) }
 {}
