@@ -1,14 +1,18 @@
 -- A new flat's text, shape and form.
-use Rattle.std.proofs.Common.{◌≡◌, ℕ, ◌+◌, ◌-◌, ◌<◌, List, length, refl, sym, ap, subst, ◌∙◌, arith}
+use Rattle.std.proofs.Common.{◌≡◌, ℕ, ◌+◌, ◌-◌, ◌<◌, List, [], ◌∷◌, ◌++◌, length, refl, sym, ap, subst, ◌∙◌, arith}
 use Rattle.std.specs.Prelude.{Contains}
-use Rattle.node_forest.specs.Label.{Node}
+use Rattle.node_forest.specs.Label.{Node, number}
 use Rattle.node_edges.specs.Body.{flat_node}
 use Rattle.tree_shapes.specs.Shape.{level, capacities}
 use Rattle.node_edges.specs.Text.{text}
 use Rattle.node_edges.specs.Trees.{shape_of, IsFilled, IsWellFormed}
 use Rattle.tree_shapes.specs.Capacity.{capacity_for, IsLeast}
 use Rattle.tree_shapes.specs.Flats.{flat_shape}
-use Rattle.flat_nodes.specs.Flats.{new_flat_node}
+use Rattle.pool_rule.specs.Gains.{no_gain, Gained}
+use Rattle.pool_rule.specs.Views.{View}
+use Rattle.pool_rule.proofs.Gains.{gaining-none, gained-is}
+use Rattle.node_pool.specs.Answers.{noting_all}
+use Rattle.flat_nodes.specs.Flats.{added, IsAdded, new_flat_node}
 
 pub made-new : (e : Node) (own bytes : List ℕ) (room : ℕ) → e ≡ flat_node e.0.number own room → own ≡ bytes → room ≡ capacity_for (length bytes) - length bytes → e ≡ new_flat_node e.0.number bytes
 made-new e own bytes room is same rest = is ∙ (λ i. flat_node e.0.number (same i) (rest i))
@@ -44,3 +48,9 @@ formed-new e bytes some is new =
     let whole : capacity_for size ≡ (capacity_for size - size) + size = omega (arith, is.wide) in
     let one = subst (λ (c : ℕ). Contains capacities c) whole is.one in
     subst IsWellFormed (sym new) (formed-flat e.0.number (capacity_for size - size) bytes some one)
+
+-- the lists that grew: one number was taken, after those that were found in use
+pub gained-added : (size : ℕ) (v w : View) (e : Node) (is : IsAdded size v w e) → Gained (record no_gain { taken = number e ∷ []; full = is.found }) v w
+gained-added size v w e is =
+    gained-is (record no_gain { taken = number e ∷ []; full = is.found }) v (added e (noting_all is.found v)) w is.view
+    (λ i. record (gaining-none v i) { holds = v.holds ++ e ∷ []; taken = v.taken ++ number e ∷ []; full = v.full ++ is.found })

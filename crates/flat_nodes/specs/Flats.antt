@@ -5,9 +5,7 @@ use Rattle.node_forest.specs.declared.kind.Kind.TheVariants.{Flat}
 use Rattle.node_forest.specs.Label.{Node, number}
 use Rattle.node_edges.specs.Body.{flat_node}
 use Rattle.pool_rule.specs.Views.{View}
-use Rattle.node_pool.specs.Answers.{noting_all, IsFull}
-use Rattle.flat_nodes.specs.declared.refusals.NodeError.{NodeError}
-use Rattle.flat_nodes.specs.declared.refusals.NodeError.TheVariants.{NoNumber, HeightLimit, Memory}
+use Rattle.node_pool.specs.Answers.{noting_all}
 use Rattle.tree_shapes.specs.Capacity.{capacity_for}
 
 -- the node of a new flat with these bytes
@@ -31,9 +29,3 @@ pub record IsAdded (size : ℕ) (v w : View) (e : Node) : Type 0 where
   pub found : List ℕ
   pub few : length found < size
   pub view : w ≡ added e (noting_all found v)
-
--- each number was found not 0 in this call, or memory was wanting and no step was made
-abbrev pub IsFlatRefused : ℕ → NodeError → View → View → Type 0
-IsFlatRefused size (NoNumber seen) v w = (seen ≡ size) × IsFull size v w
-IsFlatRefused size (HeightLimit height) v w = ⊥
-IsFlatRefused size Memory v w = w ≡ v

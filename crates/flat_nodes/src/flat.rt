@@ -2,15 +2,15 @@
 ghost use Rattle.std.specs.Prelude.{◌≡◌, ◌+◌, ◌<◌, ◌≤◌, [], ◌∷◌, length, vec_capacity, IfOk, IfErr};
 ghost use Rattle.node_edges.specs.Text.{text};
 ghost use Rattle.node_edges.specs.Trees.{shape_of, IsWellFormed};
-ghost use Rattle.pool_rule.specs.Trades.{Trades};
+ghost use Rattle.pool_rule.specs.Trades.{Trades, SameHolds};
+ghost use Rattle.node_pool.specs.Refusals.{IsCause, IsNoted, IsOfNoHeight};
 ghost use Rattle.tree_shapes.specs.Capacity.{capacity_for};
 ghost use Rattle.tree_shapes.specs.Flats.{flat_shape};
-ghost use Rattle.flat_nodes.specs.Flats.{new_flat_node, room_in, IsAdded, IsFlatRefused};
+ghost use Rattle.flat_nodes.specs.Flats.{new_flat_node, room_in, IsAdded};
 
 use crate::capacity::capacity_for;
-use crate::refusals::NodeError;
 use cord_port::Releaser;
-use node_pool::{Body, Edge, Naming, Pool, TakeError, Worker};
+use node_pool::{Body, Edge, Naming, NodeError, Pool, Worker};
 use std::alloc::{AllocError, Global};
 
 /// A flat of 1 to 4083 bytes, which has the least capacity that holds them. It takes one number, and its hold is the worker's last.
@@ -30,18 +30,16 @@ pub fn new_flat<P: Naming, B: Releaser>(
     ensures shape { IfOk result (λ e. shape_of e ≡ flat_shape (length bytes.now)) }
     ensures added { IfOk result (λ e. IsAdded P.size w.old w.new e) }
     ensures traded { IfOk result (λ e. Trades w.old.holds [] (e ∷ []) w.new.holds) }
-    ensures refused { IfErr result (λ x. IsFlatRefused P.size x w.old w.new) }
+    ensures cause { IfErr result (λ x. IsCause P.size x w.old w.new) }
+    ensures height { IfErr result (λ x. IsOfNoHeight x) }
+    ensures noted { IfErr result (λ x. IsNoted x w.old w.new) }
+    ensures same { IfErr result (λ _. SameHolds w.old.holds w.new.holds) }
 {
     let capacity = capacity_for(bytes.len());
-    let Ok(own) = own_bytes(alloc, bytes, capacity) else {
-        return Err(NodeError::Memory);
-    };
+    let own = own_bytes(alloc, bytes, capacity)?;
     let room = (capacity - bytes.len()) as u32;
-    match pool.take(alloc, w, Body::Flat { bytes: own, room }) {
-        Ok(edge) => Ok(edge),
-        Err(TakeError::NoNumber { seen }) => Err(NodeError::NoNumber { seen }),
-        Err(TakeError::Memory) => Err(NodeError::Memory),
-    }
+    let edge = pool.take(alloc, w, Body::Flat { bytes: own, room })?;
+    Ok(edge)
 }
 
 /// A copy of the bytes, with memory for so many.

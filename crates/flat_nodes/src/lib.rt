@@ -3,10 +3,8 @@
 
 mod capacity;
 mod flat;
-mod refusals;
 #[cfg(test)]
 mod tests;
 
 pub use flat::{new_flat, room_of};
-pub use node_pool::Edge;
-pub use refusals::NodeError;
+pub use node_pool::{Edge, NodeError};

@@ -2,6 +2,7 @@
 pub mod Calling
 pub mod Closing
 pub mod Finishing
+pub mod Gaining
 pub mod Hiring
 pub mod Marking
 pub mod OwnSlots
@@ -9,6 +10,7 @@ pub mod PassTrees
 pub mod Passing
 pub mod Returning
 pub mod Seats
+pub mod Slicing
 pub mod Starting
 pub mod Takes
 pub mod Walks

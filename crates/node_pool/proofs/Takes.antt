@@ -15,11 +15,14 @@ use Rattle.node_edges.specs.Body.{IsBody, edges_in_body, node_of, node_with, ren
 use Rattle.node_edges.proofs.EdgeLaws.{renumbered-body}
 use Rattle.pool_rule.specs.Rules.{Among}
 use Rattle.pool_rule.specs.Plays.{AreOneEach}
-use Rattle.pool_rule.specs.Trades.{HasHolds, Trades}
+use Rattle.pool_rule.specs.Trades.{HasHolds, SameHolds, Trades}
 use Rattle.pool_rule.specs.Views.{View, taking, noting, tried}
 use Rattle.pool_rule.proofs.Door.{takes-trades_held}
+use Rattle.pool_rule.proofs.Trades.{Trades-same}
+use Rattle.pool_rule.specs.Gains.{no_gain, SawAll}
+use Rattle.pool_rule.proofs.Gains.{gained-is, gained-noting}
 use Rattle.pool_rule.proofs.Taken.{among_left, among_right}
-use Rattle.node_pool.specs.Answers.{IsNextSlot, IsTaken, noting_all, IsFull, wrapped, round}
+use Rattle.node_pool.specs.Answers.{IsNextSlot, IsTaken, noting_all, wrapped, round}
 
 -- ---- the node
 pub made_again : (e d : Node) (n : ℕ) (b : Body) → e ≡ renumbered n d → d ≡ node_of d.0.number b → e ≡ node_of e.0.number b
@@ -57,7 +60,7 @@ taken_trades e b v u w found ns noted is free below one held =
     subst (λ (z : List Node × List Node). Trades z.0 z.1 (e ∷ []) w.holds) (λ q. (same q, below q)) t
 
 -- ---- a whole round
-length-round : (size start k : ℕ) → length (round size start k) ≡ k
+pub length-round : (size start k : ℕ) → length (round size start k) ≡ k
 length-round size start zero = refl
 length-round size start (suc k) = omega (arith, length-round size start k, length-append (round size start k) (wrapped size (start + k) ∷ []))
 
@@ -95,13 +98,15 @@ whole_round size start n begins low =
     let less : n + size - size ≡ n = omega arith in
     subst (λ (z : ℕ). Among z (round size start size)) (ap (wrapped size) back ∙ (wrapped_high size (n + size) (omega arith) ∙ less)) (in_round size start size j (omega arith)))
 
-pub full_round : (size start i : ℕ) (v w : View) → start < size → i ≡ size → w ≡ noting_all (round size start i) v → IsFull size v w
-full_round size start i v w begins all noted = record {
-  found = round size start size;
-  every = λ n low. whole_round size start n begins low;
-  count = length-round size start size;
-  view = noted ∙ ap (λ (k : ℕ). noting_all (round size start k) v) all;
+pub saw_round : (size start i : ℕ) (v w : View) → start < size → i ≡ size → w ≡ noting_all (round size start i) v → SawAll size v w
+saw_round size start i v w begins all noted = record {
+  gain = record no_gain { full = round size start i };
+  is = gained-is _ v (noting_all (round size start i) v) w noted (gained-noting v (round size start i));
+  every = λ n low. subst (λ (k : ℕ). Among n (round size start k)) (sym all) (whole_round size start n begins low);
 }
+
+pub same_round : (size start i : ℕ) (v w : View) → w ≡ noting_all (round size start i) v → SameHolds v.holds w.holds
+same_round size start i v w noted = Trades-same v.holds w.holds (ap (λ (z : View). z.holds) noted)
 
 -- an external takes the worker's next slot
 next_slot : (n l : ℕ) (b : Body) (unused : List ℕ) → IsNextSlot b unused → (node_with n l b).0.kind ≡ kinds.External → (later : List ℕ) × (unused ≡ (node_with n l b).0.more ∷ later)

@@ -4,14 +4,11 @@ use Rattle.node_forest.specs.Forest.{children}
 use Rattle.node_forest.specs.Label.{Node, number}
 use Rattle.count_core.specs.Views.{without}
 use Rattle.pool_rule.specs.Notes.{lone_but}
-use Rattle.pool_rule.specs.Rules.{Among}
 use Rattle.pool_rule.specs.Views.{View, taking}
 use Rattle.node_edges.specs.declared.edge.Body.{Body}
 use Rattle.node_edges.specs.declared.edge.Body.TheVariants.{External}
 use Rattle.node_pool.specs.declared.calls.Left.{Left}
 use Rattle.node_pool.specs.declared.calls.Left.TheVariants.{Shared, Last}
-use Rattle.node_pool.specs.declared.calls.TakeError.{TakeError}
-use Rattle.node_pool.specs.declared.calls.TakeError.TheVariants.{NoNumber, Memory}
 
 -- ---- takes
 -- an external's slot is the worker's next unused one
@@ -28,18 +25,6 @@ pub record IsTaken (size : ℕ) (v w : View) (e : Node) : Type 0 where
   pub found : List ℕ
   pub few : length found < size
   pub view : w ≡ taking e (noting_all found v)
-
--- each number of the pool was found not 0 at a step of this call
-pub record IsFull (size : ℕ) (v w : View) : Type 0 where
-  pub found : List ℕ
-  pub every : (n : ℕ) → n < size → Among n found
-  pub count : length found ≡ size
-  pub view : w ≡ noting_all found v
-
--- the numbers were all found not 0, or memory was wanting and no step was made
-abbrev pub IsRefused : ℕ → TakeError → View → View → Type 0
-IsRefused size (NoNumber seen) v w = (seen ≡ size) × IsFull size v w
-IsRefused size Memory v w = w ≡ v
 
 -- a place behind the last number is one from the first
 abbrev pub wrapped : ℕ → ℕ → ℕ

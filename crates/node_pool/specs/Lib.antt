@@ -6,6 +6,8 @@ pub mod Edits
 pub mod Finishes
 pub mod Passes
 pub mod Paths
+pub mod Refusals
+pub mod Slices
 pub mod Starts
 pub mod Opened
 pub mod Outlets

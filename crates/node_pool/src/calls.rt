@@ -2,10 +2,11 @@
 ghost use Rattle.std.specs.Prelude.{◌≡◌, ◌+◌, ◌*◌, ◌<◌, ◌≤◌, [], ◌∷◌, length, IfOk, IfErr};
 ghost use Rattle.node_forest.specs.Forest.{children};
 ghost use Rattle.node_edges.specs.Body.{IsBody, edges_in_body, node_of};
-ghost use Rattle.pool_rule.specs.Trades.{HasHolds, Stands, Trades};
+ghost use Rattle.pool_rule.specs.Trades.{HasHolds, SameHolds, Stands, Trades};
 ghost use Rattle.pool_rule.specs.Views.{sharing};
 ghost use Rattle.node_pool.specs.declared.calls.Left.TheVariants.{Shared};
-ghost use Rattle.node_pool.specs.Answers.{IsNextSlot, IsTaken, IsRefused, wrapped, freed, left_by};
+ghost use Rattle.node_pool.specs.Answers.{IsNextSlot, IsTaken, wrapped, freed, left_by};
+ghost use Rattle.node_pool.specs.Refusals.{refusal_of, IsCause, IsNoted};
 
 use crate::naming::Naming;
 use crate::pool::Pool;
@@ -42,7 +43,9 @@ impl<P: Naming, B: Releaser> Pool<P, B> {
         ensures edge { IfOk result (λ e. e ≡ node_of e.0.number body) }
         ensures taken { IfOk result (λ e. IsTaken P.size w.old w.new e) }
         ensures traded { IfOk result (λ e. Trades w.old.holds (edges_in_body body) (e ∷ []) w.new.holds) }
-        ensures refused { IfErr result (λ x. IsRefused P.size x w.old w.new) }
+        ensures cause { IfErr result (λ x. IsCause P.size (refusal_of x) w.old w.new) }
+        ensures noted { IfErr result (λ x. IsNoted (refusal_of x) w.old w.new) }
+        ensures same { IfErr result (λ _. SameHolds w.old.holds w.new.holds) }
     {
         let Ok(mut edge) = Edge::new(alloc, 0, body) else {
             return Err(TakeError::Memory);

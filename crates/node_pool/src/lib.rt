@@ -19,6 +19,8 @@ mod pass_trees;
 mod passes;
 mod plays;
 mod pool;
+mod refusals;
+mod slices;
 #[cfg(test)]
 mod slot_tests;
 mod slots;
@@ -39,6 +41,7 @@ pub use node_edges::{Body, Change, Edge, Memory, Side};
 pub use outlet::Outlet;
 pub use passes::PassLimit;
 pub use pool::Pool;
+pub use refusals::NodeError;
 pub use start::{Opened, PoolRefused};
 pub use tokens::{Pass, Worker};
 pub use view::{CountRule, PoolTerms, TokenView};

@@ -1,4 +1,6 @@
 //! The tokens of threads, and of what keeps a tree.
+ghost use Rattle.pool_rule.specs.Rules.{Narrow};
+
 use crate::naming::Naming;
 use crate::slots::Slots;
 use crate::view::TokenView;
@@ -27,6 +29,15 @@ impl<P: Naming> Model for Worker<P> {
     ghost view = { λ w. only w.badge.views };
 
     ghost invariant = { λ w. (w.next < P.size) × IsToken (IsWorkerView P.size P.limit) P.table w.badge.table_id w.badge.views × HasSlots w.slots (only w.badge.views) };
+}
+
+impl<P: Naming> Worker<P> {
+    /// No node in the trees that it holds has more than 6 edges.
+    pub(crate) fn nodes_are_narrow(&self)
+        ensures { Narrow self.now.holds }
+    {
+        let _next = self.next;
+    }
 }
 
 /// The token of one cord or one record. It holds one tree or none.

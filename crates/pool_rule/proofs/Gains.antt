@@ -79,7 +79,7 @@ saw-within size g h u v w x a s b = record {
 }
 
 -- ---- single steps
-unused-after : (k : Kind) (t : Node) (slots : List ℕ) → unused_after k slots ≡ drop (length (uses_of k t)) slots
+pub unused-after : (k : Kind) (t : Node) (slots : List ℕ) → unused_after k slots ≡ drop (length (uses_of k t)) slots
 unused-after Flat t slots = refl
 unused-after External t slots = refl
 unused-after Part t slots = refl

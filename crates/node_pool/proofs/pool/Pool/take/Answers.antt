@@ -4,8 +4,8 @@ use Rattle.node_forest.specs.Label.{Node, number}
 use Rattle.node_edges.specs.Body.{edges_in_body}
 use Rattle.pool_rule.specs.Trades.{HasHolds, Trades}
 use Rattle.pool_rule.specs.Views.{View}
-use Rattle.node_pool.specs.Answers.{IsTaken}
-use Rattle.node_pool.proofs.Takes.{made_slot, made_again, made_children, few_edges, noted_more, taken_trades, taken_within, full_round}
+use Rattle.node_pool.specs.Answers.{IsTaken, round}
+use Rattle.node_pool.proofs.Takes.{made_slot, made_again, made_children, few_edges, noted_more, taken_trades, taken_within, saw_round, same_round, length-round}
 use Rattle.node_pool.proofs.pool.Pool.take.Goals as goal
 
 pub take_word-requires-clause-held : goal.take_word-requires-clause-held
@@ -49,11 +49,20 @@ loop-i-preserved g c =
       made = made_again _ _ _ c.args.body c.renumber.ensures inv.made;
     }
 
-pub returns-clause-refused : goal.returns-clause-refused
-returns-clause-refused g c =
+pub returns-clause-cause : goal.returns-clause-cause
+returns-clause-cause g c =
     let inv = c.loop-i.invariant in
     let pool = c.args.self.now in
-    (pool.sized.0, full_round g.P.Naming.size c.w.inside.next c.loop-i.i c.args.w.now c.loop-i.w c.w.invariant.0 (search rules) inv.noted)
+    (pool.sized.0, saw_round g.P.Naming.size c.w.inside.next c.loop-i.i c.args.w.now c.loop-i.w c.w.invariant.0 (search rules) inv.noted)
+
+pub returns-clause-noted : goal.returns-clause-noted
+returns-clause-noted g c =
+    let inv = c.loop-i.invariant in
+    let n = g.P.Naming.size in
+    (round n c.w.inside.next c.loop-i.i, length-round n c.w.inside.next c.loop-i.i ∙ search rules, inv.noted)
+
+pub returns-clause-same : goal.returns-clause-same
+returns-clause-same g c = same_round g.P.Naming.size c.w.inside.next c.loop-i.i c.args.w.now c.loop-i.w c.loop-i.invariant.noted
 
 pub take_word-requires-clause-slot : goal.take_word-requires-clause-slot
 take_word-requires-clause-slot g c = λ ext.
