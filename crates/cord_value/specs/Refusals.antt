@@ -1,11 +1,15 @@
 -- Which refusal comes where, and what it leaves a worker with.
-use Rattle.std.specs.Prelude.{ℕ, ◌≡◌, ◌<◌, ◌≤◌, Option, IsSome}
+use Rattle.std.specs.Prelude.{ℕ, ◌≡◌, ◌<◌, ◌≤◌, List, [], ◌∷◌, ◌++◌, length, Option, IsSome}
 use Rattle.node_forest.specs.Label.{Node}
+use Rattle.pool_rule.specs.Gains.{Gain, Gained, SawAll}
+use Rattle.pool_rule.specs.Notes.{Count}
+use Rattle.pool_rule.specs.Trades.{SameHolds}
 use Rattle.pool_rule.specs.Views.{View}
-use Rattle.node_pool.specs.Answers.{IsFull}
+use Rattle.node_pool.specs.Answers.{noting_all}
 use Rattle.node_pool.specs.Passes.{counted, uncounted}
-use Rattle.flat_nodes.specs.declared.refusals.NodeError.{NodeError}
-use Rattle.flat_nodes.specs.declared.refusals.NodeError.TheVariants as node
+use Rattle.node_pool.specs.declared.refusals.NodeError.{NodeError}
+use Rattle.node_pool.specs.declared.refusals.NodeError.TheVariants as node
+use Rattle.cord_value.specs.Workers.{AreBelow}
 use Rattle.cord_value.specs.declared.refusals.CordError.{CordError}
 use Rattle.cord_value.specs.declared.refusals.CordError.TheVariants.{LengthLimit, HeightLimit, PassLimit, NoNumber, Memory}
 
@@ -19,29 +23,56 @@ pub record IsPassRefused (limit found : ℕ) (v w : View) : Type 0 where
   pub limit_reached : limit ≤ found
   pub view : w ≡ uncounted (counted found v)
 
--- beside a pass that was made, below the limit, and ended, each number was found not 0
-pub record IsNumberRefused (size limit seen : ℕ) (v w : View) : Type 0 where
-  pub live : ℕ
-  pub less : live < limit
-  pub all : seen ≡ size
-  pub full : IsFull size (uncounted (counted live v)) w
-
 -- a pass was made, below the limit, and ended
 pub record IsPassUndone (limit : ℕ) (v w : View) : Type 0 where
   pub live : ℕ
   pub less : live < limit
   pub view : w ≡ uncounted (counted live v)
 
+-- the same, with so many steps between that found numbers in use
+pub record IsNumberUndone (limit seen : ℕ) (v w : View) : Type 0 where
+  pub live : ℕ
+  pub less : live < limit
+  pub found : List ℕ
+  pub count : length found ≡ seen
+  pub view : w ≡ noting_all found (uncounted (counted live v))
+
+-- ---- causes
 -- of a cord that was to have so many bytes
 abbrev pub IsMakeRefused : ℕ → ℕ → ℕ → CordError → View → View → Type 0
-IsMakeRefused size limit n (LengthLimit asked) v w = (asked ≡ n) × (4083 < n) × (w ≡ v)
-IsMakeRefused size limit n (PassLimit found) v w = (15 < n) × (n ≤ 4083) × IsPassRefused limit found v w
-IsMakeRefused size limit n (NoNumber seen) v w = (15 < n) × (n ≤ 4083) × IsNumberRefused size limit seen v w
-IsMakeRefused size limit n Memory v w = (15 < n) × (n ≤ 4083) × IsPassUndone limit v w
+IsMakeRefused size limit n (LengthLimit asked) v w = (asked ≡ n) × (4083 < n)
+IsMakeRefused size limit n (PassLimit found) v w = (15 < n) × (n ≤ 4083) × (limit ≤ found)
+IsMakeRefused size limit n (NoNumber seen) v w = (15 < n) × (n ≤ 4083) × (seen ≡ size) × SawAll size v w
+IsMakeRefused size limit n Memory v w = (15 < n) × (n ≤ 4083)
 IsMakeRefused size limit n _ v w = ⊥
+
+-- which steps were made, and no others
+abbrev pub IsMakeUndone : ℕ → CordError → View → View → Type 0
+IsMakeUndone limit (LengthLimit asked) v w = w ≡ v
+IsMakeUndone limit (PassLimit found) v w = IsPassRefused limit found v w
+IsMakeUndone limit (NoNumber seen) v w = IsNumberUndone limit seen v w
+IsMakeUndone limit Memory v w = IsPassUndone limit v w
+IsMakeUndone limit _ v w = ⊥
 
 -- of a copy: a cord without a tree has none
 abbrev pub IsCopyRefused : ℕ → Option Node → CordError → View → View → Type 0
 IsCopyRefused limit tree (PassLimit found) v w = IsSome tree × IsPassRefused limit found v w
 IsCopyRefused limit tree Memory v w = IsSome tree × IsPassUndone limit v w
 IsCopyRefused limit tree _ v w = ⊥
+
+-- ---- what any refusal leaves
+-- A counted step found fewer live passes than the limit, but for the last one where the limit is what the call was refused for.
+abbrev pub AreCountsOf : ℕ → CordError → List Count → Type 0
+AreCountsOf limit (PassLimit found) counts = (given : List Count) × (last : Count) × (counts ≡ given ++ last ∷ []) × AreBelow limit given × (last.found ≡ found) × (limit ≤ found)
+AreCountsOf limit _ counts = AreBelow limit counts
+
+-- the worker holds what it held before, took no number, and ended each pass that it made
+pub record IsBalanced (limit : ℕ) (x : CordError) (v w : View) : Type 0 where
+  pub holds : SameHolds v.holds w.holds
+  pub gain : Gain
+  pub gained : Gained gain v w
+  pub taken : gain.taken ≡ []
+  pub counts : AreCountsOf limit x gain.counts
+  pub ended : gain.ended ≡ length gain.counts
+  pub used : gain.used ≡ []
+  pub looks : gain.looks ≡ []

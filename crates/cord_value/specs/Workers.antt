@@ -1,20 +1,23 @@
 -- What the calls on cords leave a worker with.
-use Rattle.std.specs.Prelude.{ℕ, ◌≡◌, ◌+◌, List, [], ◌++◌}
+use Rattle.std.specs.Prelude.{ℕ, ◌≡◌, ◌<◌, List, [], length, All}
+use Rattle.pool_rule.specs.Gains.{Gain, Gained}
+use Rattle.pool_rule.specs.Notes.{Count}
 use Rattle.pool_rule.specs.Trades.{SameHolds}
 use Rattle.pool_rule.specs.Views.{View}
 
--- the worker holds what it held before; it took these numbers, made so many new passes, and ended so many; it used no releaser slot, and none of
--- its looks answered no
-pub record Keeps (numbers : List ℕ) (new gone : ℕ) (v w : View) : Type 0 where
-  pub holds : SameHolds v.holds w.holds
-  pub taken : w.taken ≡ v.taken ++ numbers
-  pub made : w.made ≡ v.made + new
-  pub ended : w.ended ≡ v.ended + gone
-  pub unused : w.unused ≡ v.unused
-  pub used : w.used ≡ v.used
-  pub looks : w.looks ≡ v.looks
+-- each of these counted steps found fewer live passes than the limit
+abbrev pub AreBelow : ℕ → List Count → Type 0
+AreBelow limit counts = All (λ c. c.found < limit) counts
 
--- the worker took no number, and ended each pass that it made
-pub record IsBalanced (v w : View) : Type 0 where
-  pub passes : ℕ
-  pub keeps : Keeps [] passes passes v w
+-- The worker holds what it held before. It took these numbers, made so many passes, each where fewer were live than the limit, and ended so
+-- many; it used no releaser slot, and none of its looks answered no.
+pub record Keeps (limit : ℕ) (numbers : List ℕ) (new gone : ℕ) (v w : View) : Type 0 where
+  pub holds : SameHolds v.holds w.holds
+  pub gain : Gain
+  pub gained : Gained gain v w
+  pub taken : gain.taken ≡ numbers
+  pub made : length gain.counts ≡ new
+  pub below : AreBelow limit gain.counts
+  pub ended : gain.ended ≡ gone
+  pub used : gain.used ≡ []
+  pub looks : gain.looks ≡ []

@@ -2,17 +2,17 @@
 ghost use Rattle.std.specs.Prelude.{◌≡◌, ◌↔◌, ◌+◌, ◌<◌, ◌≤◌, [], ◌∷◌, length, None, IsSome, IsTrue, IfOk, IfErr, IfSome};
 ghost use Rattle.node_edges.specs.Trees.{shape_of};
 ghost use Rattle.tree_shapes.specs.Flats.{flat_shape};
-ghost use Rattle.cord_value.specs.Workers.{Keeps, IsBalanced};
-ghost use Rattle.cord_value.specs.Refusals.{IsMakeRefused, refusal_of};
+ghost use Rattle.cord_value.specs.Workers.{Keeps};
+ghost use Rattle.cord_value.specs.Refusals.{IsMakeRefused, IsMakeUndone, IsBalanced};
 ghost use Rattle.cord_value.specs.Views.{IsTreeOf, numbers_of, passes_of};
 
 use crate::inline::{MOST_INLINE, inline_of};
 use crate::refusals::CordError;
 use arrayvec::ArrayVec;
 use cord_port::Releaser;
-use flat_nodes::{NodeError, new_flat};
+use flat_nodes::new_flat;
 use node_edges::texts_are_as_long_as_edges_say;
-use node_pool::{Edge, Naming, Pass, PassLimit, Pool, Worker};
+use node_pool::{Edge, Naming, Pass, Pool, Worker};
 use std::alloc::Global;
 use std::marker::Model;
 
@@ -70,11 +70,12 @@ impl<P: Naming> Cord<P> {
         ensures tree { IfOk result (λ c. IsSome c.tree ↔ (15 < length bytes.now)) }
         ensures formed { IfOk result (λ c. IsTreeOf c.bytes c.tree) }
         ensures shape { IfOk result (λ c. IfSome c.tree (λ e. shape_of e ≡ flat_shape (length bytes.now))) }
-        ensures worker { IfOk result (λ c. Keeps (numbers_of c.tree) (passes_of c.tree) 0 w.old w.new) }
+        ensures worker { IfOk result (λ c. Keeps P.limit (numbers_of c.tree) (passes_of c.tree) 0 w.old w.new) }
         ensures unshared { IfOk result (λ _. w.new.shares ≡ w.old.shares) }
         ensures short { IfOk result (λ _. length bytes.now ≤ 4083) }
         ensures refused { IfErr result (λ x. IsMakeRefused P.size P.limit (length bytes.now) x w.old w.new) }
-        ensures balanced { IfErr result (λ _. IsBalanced w.old w.new) }
+        ensures steps { IfErr result (λ x. IsMakeUndone P.limit x w.old w.new) }
+        ensures balanced { IfErr result (λ x. IsBalanced P.limit x w.old w.new) }
     {
         if bytes.len() <= MOST_INLINE {
             return Ok(Cord {
@@ -85,10 +86,7 @@ impl<P: Naming> Cord<P> {
             let asked = bytes.len() as u64;
             return Err(CordError::LengthLimit { asked });
         }
-        let mut pass = match pool.pass(w) {
-            Ok(pass) => pass,
-            Err(PassLimit { found }) => return Err(CordError::PassLimit { found }),
-        };
+        let mut pass = pool.pass(w)?;
         match new_flat(alloc, pool, w, bytes) {
             Ok(root) => {
                 pool.fill(w, &mut pass, &root);
@@ -98,7 +96,7 @@ impl<P: Naming> Cord<P> {
             }
             Err(error) => {
                 pool.end(w, pass);
-                Err(refusal_of(error))
+                Err(error.into())
             }
         }
     }
@@ -126,8 +124,9 @@ impl<P: Naming> Cord<P> {
     /// Leaves the tree and ends its pass.
     pub fn release<B: Releaser>(self, pool: &Pool<P, B>, w: &mut Worker<P>)
         requires room { length w.old.holds ≤ 96 }
-        ensures worker { Keeps [] 0 (passes_of self.tree) w.old w.new }
+        ensures worker { Keeps P.limit [] 0 (passes_of self.tree) w.old w.new }
         ensures unshared { w.new.shares ≡ w.old.shares }
+        ensures untried { w.new.full ≡ w.old.full }
     {
         let Cord { form } = self;
         match form {
@@ -137,16 +136,5 @@ impl<P: Naming> Cord<P> {
                 pool.leave(w, &root);
             }
         }
-    }
-}
-
-// The refusal of a new flat, which is never for its height.
-fn refusal_of(error: NodeError) -> CordError
-    ensures { result ≡ refusal_of error }
-{
-    match error {
-        NodeError::NoNumber { seen } => CordError::NoNumber { seen },
-        NodeError::HeightLimit { height } => CordError::HeightLimit { height },
-        NodeError::Memory => CordError::Memory,
     }
 }

@@ -1,5 +1,5 @@
 //! Why a call on a cord is refused.
-use node_pool::{Naming, Pass};
+use node_pool::{Naming, NodeError, Pass, PassLimit};
 
 /// Why a call did nothing. The cord has the same bytes and the same tree.
 #[derive(Clone, Copy, Debug, PartialEq, Eq)]
@@ -18,6 +18,32 @@ pub enum CordError {
     NoReleaser { used: u32 },
     /// Want of memory.
     Memory,
+}
+
+impl From<NodeError> for CordError {
+    ghost use Rattle.std.specs.Prelude.{◌≡◌};
+    ghost use Rattle.cord_value.specs.Refusals.{refusal_of};
+
+    ghost from_gives = { λ error refusal. refusal ≡ refusal_of error };
+
+    fn from(error: NodeError) -> CordError {
+        match error {
+            NodeError::NoNumber { seen } => CordError::NoNumber { seen },
+            NodeError::HeightLimit { height } => CordError::HeightLimit { height },
+            NodeError::Memory => CordError::Memory,
+        }
+    }
+}
+
+impl From<PassLimit> for CordError {
+    ghost use Rattle.std.specs.Prelude.{◌≡◌};
+    ghost use Rattle.cord_value.specs.declared.refusals.CordError.TheVariants as cord;
+
+    ghost from_gives = { λ limit refusal. refusal ≡ cord.PassLimit limit.found };
+
+    fn from(limit: PassLimit) -> CordError {
+        CordError::PassLimit { found: limit.found }
+    }
 }
 
 /// Want of memory for a copy. The pass comes back, empty as before.

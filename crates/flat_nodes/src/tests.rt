@@ -3,9 +3,8 @@ ghost use Rattle.std.specs.Prelude.{◌≡◌, ◌<◌, ◌≤◌, length};
 ghost use Rattle.node_pool.specs.Opened.{opened_table, opened_numbers, opened_passes, opened_workers, opened_boxes};
 
 use crate::flat::{new_flat, room_of};
-use node_pool::NodeError;
 use cord_port::LogReleaser;
-use node_pool::{Body, Closed, Edge, Left, Naming, Opened, Pool, Worker};
+use node_pool::{Body, Closed, Edge, Left, Naming, NodeError, Opened, Pool, Worker};
 use std::alloc::Global;
 use std::marker::Brand;
 

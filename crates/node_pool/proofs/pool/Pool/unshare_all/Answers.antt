@@ -23,5 +23,5 @@ leave-requires-clause-room g c =
 pub loop-edge-preserved : goal.loop-edge-preserved
 loop-edge-preserved g c =
     let m = unshared-more c.args.edges.now c.loop-edge.edge-index c.edge-item.result c.args.w.now c.loop-edge.w c.loop-edge-test.true c.edge-item.is c.requires.spare c.loop-edge.invariant.traded
-        c.leave.result c.leave.new.w c.loop-edge.invariant.gained c.leave.ensures.left c.leave.ensures.traded c.leave.ensures.standing in
+    c.leave.result c.leave.new.w c.loop-edge.invariant.gained c.leave.ensures.left c.leave.ensures.traded c.leave.ensures.standing in
     record { traded = m.0; gained = m.1 }
