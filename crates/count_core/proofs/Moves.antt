@@ -10,14 +10,16 @@ use Rattle.node_forest.specs.Counts.{is, times, first}
 use Rattle.node_forest.proofs.Members.{root_occurs}
 use Rattle.node_forest.proofs.Counts.{is_one, is_none, times_pos, times_some, first_cases, first_found}
 use Rattle.count_core.specs.Sound.{Sound, Parts}
-use Rattle.count_core.specs.Marks.{Change, FitsRoot, edited_holds, holds_of, edits, site}
+use Rattle.node_forest.specs.Changes.{site}
+use Rattle.count_core.specs.Marks.{Change, FitsRoot, edited_holds, holds_of, edits}
 use Rattle.count_core.specs.Views.{without, without_all, AreHeld, edges_of_one, passed_on, moving, staying}
 use Rattle.count_core.specs.Steps.{State, Step, take, share, leave, look, mark, split, merge, counted, uncounted, home, word_at, holds_at, roots, CanTake, CanShare, CanLeave, CanMark, CanSplit, CanMerge, CanStep, after, changed, with_views}
 use Rattle.count_core.specs.Worlds.{IsSound}
 use Rattle.count_core.proofs.DifferentNumbers.{holders_below-holders}
 use Rattle.count_core.proofs.Parts.{parts_last}
 use Rattle.count_core.proofs.Counting.{stays, shares, takes, leaves_last, leaves_shared, has_holder}
-use Rattle.count_core.proofs.Edits.{Shuffled, shuffled_sound, shuffled_then, shuffled_append, shuffled_refl, shuffled_back, shuffled_swap, shuffled_between, shuffled_without, edits_sound}
+use Rattle.node_forest.proofs.Shuffles.{Shuffled, shuffled_then, shuffled_append, shuffled_refl, shuffled_back, shuffled_swap, shuffled_between}
+use Rattle.count_core.proofs.Edits.{shuffled_sound, shuffled_without, edits_sound}
 use Rattle.count_core.proofs.Around.{around, seen_occurs, grows, shrinks, turns, parts_without, in_without, parts_join, parts_none, parts_moving}
 
 -- ---- words
@@ -203,9 +205,9 @@ module _ (w : State) (s : IsSound w) where
           let moved : set w.views v (holds_of end) ≡ (after (mark v n path changes) w).views = (λ i. set w.views v (edited_holds (sym e i) path changes kept)) in
           subst (λ (z : List (List Node)). IsSound (with_views w z)) moved
           (world_of (with_views w (set w.views v (holds_of end))) (length w.words) refl
-          (shuffled_sound (length w.words) (word_at w) (end.tree ∷ (end.holds ++ rest)) (roots (set w.views v (holds_of end)))
-          (shuffled_then (end.tree ∷ (end.holds ++ rest)) (holds_of end ++ rest) (roots (set w.views v (holds_of end)))
-          (shuffled_append (end.tree ∷ end.holds) (holds_of end) rest rest (shuffled_swap (end.tree ∷ []) end.holds) (shuffled_refl rest))
+          (shuffled_sound (length w.words) (word_at w) (end.tree ∷ (end.out ++ rest)) (roots (set w.views v (holds_of end)))
+          (shuffled_then (end.tree ∷ (end.out ++ rest)) (holds_of end ++ rest) (roots (set w.views v (holds_of end)))
+          (shuffled_append (end.tree ∷ end.out) (holds_of end) rest rest (shuffled_swap (end.tree ∷ []) end.out) (shuffled_refl rest))
           (subst (λ (z : List Node). Shuffled (holds_of end ++ rest) z) (sym (a.then (holds_of end))) (shuffled_back (a.before ++ (holds_of end ++ a.after)) (holds_of end ++ rest) (shuffled_between a.before (holds_of end) a.after))))
           last)
           s.words s.live)

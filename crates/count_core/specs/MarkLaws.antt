@@ -4,7 +4,9 @@ use Rattle.node_forest.specs.Label.{Node}
 use Rattle.node_forest.specs.Members.{In}
 use Rattle.node_forest.specs.Counts.{times, first}
 use Rattle.count_core.specs.Views.{without}
-use Rattle.count_core.specs.Marks.{Site, site, holds_of, loose, LonePath, numbers_on}
+use Rattle.node_forest.specs.Paths.{numbers_on}
+use Rattle.node_forest.specs.Changes.{Site, site, loose}
+use Rattle.count_core.specs.Marks.{holds_of, LonePath}
 use Rattle.count_core.specs.Steps.{State, word_at, holds_at}
 
 -- from w to x, a view's root with the number n was edited along a path

@@ -1,12 +1,13 @@
--- Changes in place along a path: what one change does to a node and the direct holds beside its tree, where it fits, and a list of them.
-use Rattle.std.specs.Prelude.{◌≡◌, ℕ, zero, suc, ◌+◌, ◌^◌, ◌<◌, ◌≤◌, List, [], ◌∷◌, ◌++◌, length, take, drop, slice_set, Option, Some, None, IsSome, option_to_list}
-use Rattle.node_forest.specs.declared.kind.Kind.TheVariants.{Flat, Branch}
+-- Changes in place as the count rule has them: an edit of a tree whose new edges were direct holds, where it fits, and a list of them.
+use Rattle.std.specs.Prelude.{◌≡◌, ℕ, ◌<◌, List, [], ◌∷◌, ◌++◌, length, Option, Some, None, IsSome, MatchOption, option_to_list}
+use Rattle.node_forest.specs.declared.kind.Kind.TheVariants.{Branch}
 use Rattle.node_forest.specs.declared.side.Side.{Side}
-use Rattle.node_forest.specs.Forest.{forest, children}
-use Rattle.node_forest.specs.Label.{Label, Node, number}
+use Rattle.node_forest.specs.Forest.{children}
+use Rattle.node_forest.specs.Label.{Node, number}
 use Rattle.node_forest.specs.Counts.{first}
-use Rattle.node_forest.specs.Sides.{outgoing, remaining, joined, KeepsChild, path_after}
-use Rattle.node_forest.specs.Paths.{child_of, AreShort}
+use Rattle.node_forest.specs.Paths.{child_of}
+use Rattle.node_forest.specs.Changes.{Site, site, Exchange, Edit, edited, Fits, edit, FitsAt}
+use Rattle.node_forest.specs.Changes as tree
 use Rattle.count_core.specs.Views.{without}
 
 -- a flat gets a length, bytes and room; or so many edges at a side of a branch become direct holds, and then direct holds with these numbers
@@ -14,15 +15,6 @@ use Rattle.count_core.specs.Views.{without}
 pub data Change : Type 0 where
   resize : ℕ → List ℕ → ℕ → Change
   exchange : Side → ℕ → List ℕ → Change
-
--- a tree that is edited, the path down it, and the other direct holds
-pub record Site : Type 0 where
-  pub tree : Node
-  pub path : List ℕ
-  pub holds : List Node
-
-abbrev pub site : Node → List ℕ → List Node → Site
-site t path hs = record { tree = t; path = path; holds = hs }
 
 -- ---- direct holds that become edges
 abbrev pub pulled : List ℕ → List Node → List Node
@@ -38,73 +30,49 @@ abbrev pub CanPull : List ℕ → List Node → Type 0
 CanPull [] hs = Unit {0}
 CanPull (m ∷ ms) hs = IsSome (first m hs) × CanPull ms (without m hs)
 
--- ---- the edges of a branch
-abbrev pub total : List Node → ℕ
-total [] = 0
-total (t ∷ ts) = t.0.length + total ts
+-- ---- a change as an edit, where the trees outside are the other direct holds
+-- the numbers of the direct holds that become edges
+abbrev pub numbers_in : Change → List ℕ
+numbers_in (resize long bytes room) = []
+numbers_in (exchange side count ms) = ms
 
-abbrev pub resized : Label → ℕ → List ℕ → ℕ → Label
-resized l long bytes more = record { number = l.number; kind = l.kind; length = long; bytes = bytes; more = more }
+abbrev pub pulling : Side → ℕ → List ℕ → List Node → Exchange
+pulling side count ms hs = record { side = side; count = count; new = pulled ms hs }
 
--- a branch with these edges, as long as they are together
-abbrev pub branch_of : Label → List Node → Node
-branch_of l kids = (resized l (total kids) l.bytes l.more, forest kids)
+abbrev pub edit_of : Change → List Node → Edit
+edit_of (resize long bytes room) hs = tree.resize long bytes room
+edit_of (exchange side count ms) hs = tree.exchange (pulling side count ms hs)
 
--- ---- a change at the node itself
-abbrev pub edges_after : Side → ℕ → List ℕ → Node → List Node → List Node
-edges_after side count ms t hs = joined side (pulled ms hs) (remaining side count (children t))
+-- a change at the node itself
+abbrev pub changed_here : Change → Site → Site
+changed_here c s = edited (edit_of c s.out) (site s.tree s.path (unpulled (numbers_in c) s.out))
 
-abbrev pub edited : Change → Node → List ℕ → List Node → Site
-edited (resize long bytes more) t path hs = record { tree = (resized t.0 long bytes more, t.1); path = path; holds = hs }
-edited (exchange side count ms) t path hs = record {
-  tree = branch_of t.0 (edges_after side count ms t hs);
-  path = path_after side count (length (pulled ms hs)) path;
-  holds = unpulled ms hs ++ outgoing side count (children t);
-}
+abbrev pub FitsHere : Change → Site → Type 0
+FitsHere c s = CanPull (numbers_in c) s.out × Fits (edit_of c s.out) s.tree s.path
 
-pub record FitsFlat (long : ℕ) (t : Node) (path : List ℕ) : Type 0 where
-  pub flat : t.0.kind ≡ Flat
-  pub some : 1 ≤ long
-  pub short : long < 2 ^ 63
-  pub ends : path ≡ []
+-- a change at a depth of the path
+abbrev pub change_at : Change → ℕ → Site → Site
+change_at c d s = edit (edit_of c s.out) d s.tree s.path (unpulled (numbers_in c) s.out)
 
-pub record FitsBranch (side : Side) (count : ℕ) (ms : List ℕ) (t : Node) (path : List ℕ) (hs : List Node) : Type 0 where
-  pub branch : t.0.kind ≡ Branch
-  pub pulls : CanPull ms hs
-  pub enough : count ≤ length (children t)
-  pub keeps : KeepsChild side count (length (children t)) path
-  pub some : 1 ≤ length (edges_after side count ms t hs)
-  pub few : length (edges_after side count ms t hs) ≤ 6
-  pub short : total (edges_after side count ms t hs) < 2 ^ 63
+abbrev pub ChangeFits : Change → ℕ → Site → Type 0
+ChangeFits c d s = CanPull (numbers_in c) s.out × FitsAt (edit_of c s.out) d s.tree s.path
 
-abbrev pub Fits : Change → Node → List ℕ → List Node → Type 0
-Fits (resize long bytes more) t path hs = FitsFlat long t path
-Fits (exchange side count ms) t path hs = FitsBranch side count ms t path hs
+-- ---- what an answer means: with a place the change fits, and this is what it makes; with none it doesn't fit
+abbrev pub IsChangedHere : Change → Site → (ℕ → Site) → Option ℕ → Type 0
+IsChangedHere c s made done = MatchOption done (FitsHere c s → ⊥) (λ place. FitsHere c s × (made place ≡ changed_here c s))
 
--- ---- a change at a depth of the path
--- the tree above follows its child
-abbrev pub raised : Node → ℕ → Site → Site
-raised t p s = record { tree = branch_of t.0 (slice_set (children t) p s.tree); path = p ∷ s.path; holds = s.holds }
-
-abbrev pub edit : Change → ℕ → Node → List ℕ → List Node → Site
-edit c zero t path hs = edited c t path hs
-edit c (suc d) t [] hs = record { tree = t; path = []; holds = hs }
-edit c (suc d) t (p ∷ ps) hs = raised t p (edit c d (child_of t p) ps hs)
-
-abbrev pub FitsAt : Change → ℕ → Node → List ℕ → List Node → Type 0
-FitsAt c zero t path hs = Fits c t path hs × AreShort t path
-FitsAt c (suc d) t [] hs = ⊥
-FitsAt c (suc d) t (p ∷ ps) hs = (p < length (children t)) × FitsAt c d (child_of t p) ps hs × (total (children (raised t p (edit c d (child_of t p) ps hs)).tree) < 2 ^ 63)
+abbrev pub IsChanged : Change → ℕ → Site → (ℕ → Site) → Option ℕ → Type 0
+IsChanged c d s made done = MatchOption done (ChangeFits c d s → ⊥) (λ place. ChangeFits c d s × (made place ≡ change_at c d s))
 
 -- ---- a list of changes, each at its depth
 abbrev pub edits : List (ℕ × Change) → Site → Site
 edits [] s = s
-edits (c ∷ cs) s = edits cs (edit c.1 c.0 s.tree s.path s.holds)
+edits (c ∷ cs) s = edits cs (change_at c.1 c.0 s)
 
 -- each change fits when it is done
 abbrev pub FitEach : List (ℕ × Change) → Site → Type 0
 FitEach [] s = Unit {0}
-FitEach (c ∷ cs) s = FitsAt c.1 c.0 s.tree s.path s.holds × FitEach cs (edit c.1 c.0 s.tree s.path s.holds)
+FitEach (c ∷ cs) s = ChangeFits c.1 c.0 s × FitEach cs (change_at c.1 c.0 s)
 
 -- the places lead down from the node: above the end each node is a branch that has the place, and the word of each is 1
 abbrev pub LonePath : (ℕ → ℕ) → Node → List ℕ → Type 0
@@ -115,31 +83,16 @@ LonePath word t (p ∷ ps) = (word (number t) ≡ 1) × (t.0.kind ≡ Branch) ×
 -- the path from it is lone, and each change fits
 abbrev pub FitsRoot : (ℕ → ℕ) → Option Node → List ℕ → List (ℕ × Change) → List Node → Type 0
 FitsRoot word None path changes hs = ⊥
-FitsRoot word (Some t) path changes hs = LonePath word t path × FitEach changes (record { tree = t; path = path; holds = hs })
+FitsRoot word (Some t) path changes hs = LonePath word t path × FitEach changes (site t path hs)
 
 -- the root leaves its place and stands last, as if it had been left and taken again
 abbrev pub holds_of : Site → List Node
-holds_of s = s.holds ++ s.tree ∷ []
+holds_of s = s.out ++ s.tree ∷ []
 
 abbrev pub edited_holds : Option Node → List ℕ → List (ℕ × Change) → List Node → List Node
 edited_holds None path changes hs = hs
-edited_holds (Some t) path changes hs = holds_of (edits changes (record { tree = t; path = path; holds = hs }))
+edited_holds (Some t) path changes hs = holds_of (edits changes (site t path hs))
 
--- ---- what stands beside the path, and on it
--- the list without the place
-abbrev pub all_but : ℕ → List Node → List Node
-all_but p ts = take p ts ++ drop (suc p) ts
-
--- the edges of the path's nodes that aren't on it
-abbrev pub beside : Node → List ℕ → List Node
-beside t [] = children t
-beside t (p ∷ ps) = all_but p (children t) ++ beside (child_of t p) ps
-
--- the direct holds and the edges beside the path: the trees that changes move
-abbrev pub loose : Site → List Node
-loose s = s.holds ++ beside s.tree s.path
-
--- the numbers of the path's nodes, from the root down
-abbrev pub numbers_on : Node → List ℕ → List ℕ
-numbers_on t [] = number t ∷ []
-numbers_on t (p ∷ ps) = number t ∷ numbers_on (child_of t p) ps
+-- with direct holds each change fits, and these are the holds then, the root last; with none one of them doesn't fit
+abbrev pub AreChanged : List (ℕ × Change) → Site → Option (List Node) → Type 0
+AreChanged cs s done = MatchOption done (FitEach cs s → ⊥) (λ holds. FitEach cs s × (holds ≡ holds_of (edits cs s)))

@@ -3,7 +3,8 @@ ghost use Rattle.std.specs.Prelude.{◌≡◌, ℕ, ◌+◌, ◌-◌, ◌^◌, �
 ghost use Rattle.node_forest.specs.Label.{Node};
 ghost use Rattle.node_forest.specs.Sides.{outgoing, remaining, joined, KeepsChild, path_after};
 ghost use Rattle.node_forest.specs.Paths.{AreShort, NeverDeeper, child_of};
-ghost use Rattle.count_core.specs.Marks.{exchange, resized, FitsFlat, edited, edit, edits, holds_of, total, Fits, FitsBranch, FitsAt, FitEach, LonePath, site};
+ghost use Rattle.node_forest.specs.Changes.{site, total, with_bytes, FitsFlat};
+ghost use Rattle.count_core.specs.Marks.{exchange, IsChangedHere, IsChanged, AreChanged, LonePath};
 ghost use Rattle.count_core.specs.Terms.{change_of, changes_of};
 
 use crate::change::TreeChange;
@@ -158,7 +159,7 @@ fn exchange(
     count: usize,
     numbers: &[u32],
 ) -> Result<Option<usize>, Memory>
-    ensures { IfOk result (λ done. MatchOption done (FitsBranch side count numbers.now tree.old path.now holds.old → ⊥) (λ place. FitsBranch side count numbers.now tree.old path.now holds.old × (site tree.new (slice_set path.now 0 place) holds.new ≡ edited (exchange side count numbers.now) tree.old path.now holds.old))) }
+    ensures { IfOk result (IsChangedHere (exchange side count numbers.now) (site tree.old path.now holds.old) (λ p. site tree.new (slice_set path.now 0 p) holds.new)) }
 {
     let edges = tree.children.len();
     if !is_branch(tree) || count > edges || !keeps_child(side, count, edges, path) {
@@ -206,7 +207,7 @@ fn edit_here(
     holds: &mut View,
     change: &TreeChange,
 ) -> Result<Option<usize>, Memory>
-    ensures { IfOk result (λ done. MatchOption done (Fits (change_of change.now) tree.old path.now holds.old → ⊥) (λ place. Fits (change_of change.now) tree.old path.now holds.old × (site tree.new (slice_set path.now 0 place) holds.new ≡ edited (change_of change.now) tree.old path.now holds.old))) }
+    ensures { IfOk result (IsChangedHere (change_of change.now) (site tree.old path.now holds.old) (λ p. site tree.new (slice_set path.now 0 p) holds.new)) }
 {
     match change {
         TreeChange::Length { length } => Ok(resize(tree, path, *length)),
@@ -234,7 +235,7 @@ fn edit_here(
 
 /// A flat at the path's end gets a length, as `exchange`.
 fn resize(tree: &mut Tree, path: &[usize], length: u64) -> Option<usize>
-    ensures { MatchOption result (FitsFlat length tree.old path.now → ⊥) (λ place. FitsFlat length tree.old path.now × (tree.new ≡ (resized tree.old.0 length [] 0, tree.old.1))) }
+    ensures { MatchOption result (FitsFlat length tree.old path.now → ⊥) (λ place. FitsFlat length tree.old path.now × (tree.new ≡ with_bytes length [] 0 tree.old)) }
 {
     if tree.kind != Kind::Flat || length == 0 || length >= LENGTH_LIMIT || !path.is_empty() {
         return None;
@@ -253,7 +254,7 @@ fn edit(
     depth: u8,
     change: &TreeChange,
 ) -> Result<Option<usize>, Memory>
-    ensures { IfOk result (λ done. MatchOption done (FitsAt (change_of change.now) depth tree.old path.now holds.old → ⊥) (λ place. FitsAt (change_of change.now) depth tree.old path.now holds.old × (site tree.new (slice_set path.now depth place) holds.new ≡ edit (change_of change.now) depth tree.old path.now holds.old))) }
+    ensures { IfOk result (IsChanged (change_of change.now) depth (site tree.old path.now holds.old) (λ p. site tree.new (slice_set path.now depth p) holds.new)) }
 {
     if depth == 0 {
         if !are_short(tree, path) {
@@ -264,7 +265,7 @@ fn edit(
     let Some((place, rest)) = path.split_first() else {
         return Ok(None);
     };
-    if *place >= tree.children.len() {
+    if !is_branch(tree) || *place >= tree.children.len() {
         return Ok(None);
     }
     let child = &mut tree.children[*place];
@@ -287,7 +288,7 @@ pub(crate) fn edits(
     mut holds: View,
     changes: &[(u8, TreeChange)],
 ) -> Result<Option<View>, Memory>
-    ensures { IfOk result (λ done. MatchOption done (FitEach (changes_of changes.now) (site tree path.items holds) → ⊥) (λ view. FitEach (changes_of changes.now) (site tree path.items holds) × (view ≡ holds_of (edits (changes_of changes.now) (site tree path.items holds))))) }
+    ensures { IfOk result (AreChanged (changes_of changes.now) (site tree path.items holds)) }
 {
     for (depth, change) in changes {
         let Some(place) = edit(alloc, &mut tree, &path, &mut holds, *depth, change)? else {

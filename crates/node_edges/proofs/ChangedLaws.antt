@@ -5,7 +5,7 @@ use Rattle.node_forest.specs.declared.kind.Kind.TheVariants.{Flat}
 use Rattle.node_forest.specs.Forest.{forest, map_forest}
 use Rattle.node_forest.specs.Label.{Node}
 use Rattle.node_edges.specs.Body.{IsBranchOf}
-use Rattle.node_edges.specs.Changes.{with_bytes, with_edges}
+use Rattle.node_forest.specs.Changes.{with_bytes, with_edges}
 use Rattle.node_edges.specs.Text.{text_step, joined_text, text}
 use Rattle.node_edges.specs.Trees.{form_of, more_of, shape_of}
 

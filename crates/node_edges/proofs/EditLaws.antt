@@ -3,22 +3,33 @@ use Rattle.std.proofs.Common.{ℕ, zero, suc, ◌≡◌, ◌+◌, ◌-◌, ◌^�
 use Rattle.std.proofs.lemmas.List.{length-take}
 use Rattle.node_forest.specs.declared.kind.Kind.TheVariants as kinds
 use Rattle.node_forest.specs.Forest.{empty, forest, children}
-use Rattle.node_forest.specs.Label.{Node}
-use Rattle.node_forest.specs.Paths.{child_of, NeverDeeper}
+use Rattle.node_forest.specs.Label.{Node, number}
+use Rattle.node_forest.specs.Paths.{child_of, at_depth, numbers_on, NeverDeeper}
 use Rattle.node_forest.proofs.Maps.{trees-forest}
 use Rattle.node_edges.specs.declared.change.Change.{Change}
 use Rattle.node_edges.specs.declared.change.Change.TheVariants.{Fill, Shorten, Add, Drop, Swap}
-use Rattle.node_edges.specs.Changes.{Exchange, Site, site, with_edges, exchange_in, edges_after, exchanged, FitsBranch, raised, edit, FitsAt, edits, FitEach}
+use Rattle.node_forest.specs.Changes.{Exchange, Edit, resize, exchange, Site, site, total, with_edges, edges_after, exchanged, FitsBranch, raised, edit, FitsAt}
+use Rattle.node_forest.proofs.Changes.{edit_number, edit_numbers, edit_tree, raised_within, raised_child}
+use Rattle.node_edges.specs.Changes.{exchange_in, edit_of, change_at, ChangeFits, edits, FitEach}
 use Rattle.node_edges.specs.Levels.{exchanges_in, all_after, all_out, all_count, CanExchange, all_bytes, all_room, FitAllBytes, most_out, lowered, AreDeep, AreAt}
 
 -- ---- lists of changes in parts
 pub edits-append : (a b : List (ℕ × Change)) (s : Site) → edits (a ++ b) s ≡ edits b (edits a s)
 edits-append [] b s = refl
-edits-append (c ∷ a) b s = edits-append a b (edit c.1 c.0 s.tree s.path s.out)
+edits-append (c ∷ a) b s = edits-append a b (change_at c.1 c.0 s)
+
+-- the numbers on the path stay, and so does the root's
+pub edits-numbers : (cs : List (ℕ × Change)) (s : Site) → FitEach cs s → numbers_on (edits cs s).tree (edits cs s).path ≡ numbers_on s.tree s.path
+edits-numbers [] s fits = refl
+edits-numbers (c ∷ cs) s fits = edits-numbers cs (change_at c.1 c.0 s) fits.1 ∙ edit_numbers (edit_of c.1 (at_depth c.0 s.tree s.path)) c.0 s.tree s.path s.out fits.0.0
+
+pub edits-number : (cs : List (ℕ × Change)) (s : Site) → number (edits cs s).tree ≡ number s.tree
+edits-number [] s = refl
+edits-number (c ∷ cs) s = edits-number cs (change_at c.1 c.0 s) ∙ edit_number (edit_of c.1 (at_depth c.0 s.tree s.path)) c.0 s.tree s.path s.out
 
 pub fits-append : (a b : List (ℕ × Change)) (s : Site) → FitEach (a ++ b) s → FitEach a s × FitEach b (edits a s)
 fits-append [] b s f = (tt, f)
-fits-append (c ∷ a) b s f = let r = fits-append a b (edit c.1 c.0 s.tree s.path s.out) f.1 in ((f.0, r.0), r.1)
+fits-append (c ∷ a) b s f = let r = fits-append a b (change_at c.1 c.0 s) f.1 in ((f.0, r.0), r.1)
 
 pub most-append : (a b : List (ℕ × Change)) → most_out (a ++ b) ≡ most_out a + most_out b
 most-append [] b = omega arith
@@ -100,21 +111,21 @@ flat_at n l bytes room = (record { number = n; kind = kinds.Flat; length = l; by
 pub flat_fits : (cs : List (ℕ × Change)) (n l r : ℕ) (bytes : List ℕ) (room : ℕ) (path : List ℕ) (out : List Node) → l ≡ length bytes → r ≡ room → FitEach cs (site (flat_at n l bytes r) path out) → FitAllBytes cs bytes room
 flat_fits [] n l r bytes room path out e f fits = tt
 flat_fits ((zero, Fill more) ∷ cs) n l r bytes room path out e f fits =
-    let fit = fits.0.0.room in (
+    let fit = fits.0.1 in (
       let g : length more.items ≤ room = omega arith in g,
       flat_fits cs n (l + length more.items) (r - length more.items) (bytes ++ more.items) (room - length more.items) path out
           (omega (arith, length-append bytes more.items, e)) (omega arith) fits.1,
     )
 flat_fits ((zero, Shorten k) ∷ cs) n l r bytes room path out e f fits =
-    let less = fits.0.0.less in
-    let capacity = fits.0.0.capacity in (
+    let less = fits.0.1.0 in
+    let capacity = fits.0.1.1 in (
       (let g : k ≤ length bytes = omega arith in g, let h : room + length bytes < 2 ^ 32 = omega arith in h),
       flat_fits cs n k (r + (l - k)) (take k bytes) (room + (length bytes - k)) path out (omega (arith, length-take k bytes, less, e)) (omega arith) fits.1,
     )
-flat_fits ((zero, Add side es) ∷ cs) n l r bytes room path out e f fits = absurd (let b = fits.0.0.branch in cc)
-flat_fits ((zero, Drop side k) ∷ cs) n l r bytes room path out e f fits = absurd (let b = fits.0.0.branch in cc)
-flat_fits ((zero, Swap side x) ∷ cs) n l r bytes room path out e f fits = absurd (let b = fits.0.0.branch in cc)
-flat_fits ((suc d, c) ∷ cs) n l r bytes room [] out e f fits = absurd fits.0
+flat_fits ((zero, Add side es) ∷ cs) n l r bytes room path out e f fits = absurd (let b = fits.0.0.0.branch in cc)
+flat_fits ((zero, Drop side k) ∷ cs) n l r bytes room path out e f fits = absurd (let b = fits.0.0.0.branch in cc)
+flat_fits ((zero, Swap side x) ∷ cs) n l r bytes room path out e f fits = absurd (let b = fits.0.0.0.branch in cc)
+flat_fits ((suc d, c) ∷ cs) n l r bytes room [] out e f fits = absurd fits.0.0
 flat_fits ((suc d, c) ∷ cs) n l r bytes room (p ∷ ps) out e f fits = absurd (let b = fits.0.0 in cc)
 
 pub flat_edits : (cs : List (ℕ × Change)) (n l r : ℕ) (bytes : List ℕ) (room : ℕ) (path : List ℕ) (out : List Node) → l ≡ length bytes → r ≡ room → FitEach cs (site (flat_at n l bytes r) path out)
@@ -124,12 +135,12 @@ flat_edits ((zero, Fill more) ∷ cs) n l r bytes room path out e f fits =
     flat_edits cs n (l + length more.items) (r - length more.items) (bytes ++ more.items) (room - length more.items) path out
     (omega (arith, length-append bytes more.items, e)) (omega arith) fits.1
 flat_edits ((zero, Shorten k) ∷ cs) n l r bytes room path out e f fits =
-    let less = fits.0.0.less in
+    let less = fits.0.1.0 in
     flat_edits cs n k (r + (l - k)) (take k bytes) (room + (length bytes - k)) path out (omega (arith, length-take k bytes, less, e)) (omega arith) fits.1
-flat_edits ((zero, Add side es) ∷ cs) n l r bytes room path out e f fits = absurd (let b = fits.0.0.branch in cc)
-flat_edits ((zero, Drop side k) ∷ cs) n l r bytes room path out e f fits = absurd (let b = fits.0.0.branch in cc)
-flat_edits ((zero, Swap side x) ∷ cs) n l r bytes room path out e f fits = absurd (let b = fits.0.0.branch in cc)
-flat_edits ((suc d, c) ∷ cs) n l r bytes room [] out e f fits = absurd fits.0
+flat_edits ((zero, Add side es) ∷ cs) n l r bytes room path out e f fits = absurd (let b = fits.0.0.0.branch in cc)
+flat_edits ((zero, Drop side k) ∷ cs) n l r bytes room path out e f fits = absurd (let b = fits.0.0.0.branch in cc)
+flat_edits ((zero, Swap side x) ∷ cs) n l r bytes room path out e f fits = absurd (let b = fits.0.0.0.branch in cc)
+flat_edits ((suc d, c) ∷ cs) n l r bytes room [] out e f fits = absurd fits.0.0
 flat_edits ((suc d, c) ∷ cs) n l r bytes room (p ∷ ps) out e f fits = absurd (let b = fits.0.0 in cc)
 
 pub bytes-lowered : (n : ℕ) (cs : List (ℕ × Change)) (bytes : List ℕ) → all_bytes (lowered n cs) bytes ≡ all_bytes cs bytes
@@ -152,15 +163,6 @@ IsSummed t = t ≡ with_edges (children t) t
 pub summed-edges : (es : List Node) (t : Node) → IsSummed (with_edges es t)
 summed-edges es t = ap (λ (z : List Node). with_edges z t) (sym (trees-forest es))
 
-tree-out : (c : Change) (d : ℕ) (t : Node) (path : List ℕ) (a b : List Node) → (edit c d t path a).tree ≡ (edit c d t path b).tree
-tree-out (Fill more) zero t path a b = refl
-tree-out (Shorten n) zero t path a b = refl
-tree-out (Add side es) zero t path a b = refl
-tree-out (Drop side n) zero t path a b = refl
-tree-out (Swap side e) zero t path a b = refl
-tree-out c (suc d) t [] a b = refl
-tree-out c (suc d) t (p ∷ ps) a b = ap (λ (z : Node). with_edges (set (children t) p z) t) (tree-out c d (child_of t p) ps a b)
-
 pub record IsFit (t : Node) : Type 0 where
   pub branch : t.0.kind ≡ kinds.Branch
   pub short : t.0.length < 2 ^ 63
@@ -175,19 +177,13 @@ fit_exchanged x t path out is fits =
     let few = fits.few in
     record { branch = is.branch; short = fits.short; some = omega arith; few = omega arith }
 
-fit_edit : (c : Change) (d : ℕ) (t : Node) (path : List ℕ) (out : List Node) → IsFit t → FitsAt c d t path → IsFit (edit c d t path out).tree
-fit_edit (Fill more) zero t path out is fits = absurd (let a = is.branch in let b = fits.0.flat in let e = sym a ∙ b in cc)
-fit_edit (Shorten n) zero t path out is fits = absurd (let a = is.branch in let b = fits.0.flat in let e = sym a ∙ b in cc)
-fit_edit (Add side es) zero t path out is fits = fit_exchanged (exchange_in (Add side es)) t path out is fits.0
-fit_edit (Drop side n) zero t path out is fits = fit_exchanged (exchange_in (Drop side n)) t path out is fits.0
-fit_edit (Swap side x) zero t path out is fits = fit_exchanged (exchange_in (Swap side x)) t path out is fits.0
-fit_edit c (suc d) t [] out is fits = absurd fits
-fit_edit c (suc d) t (p ∷ ps) out is fits =
-    let a = (edit c d (child_of t p) ps out).tree in
-    let b = (edit c d (child_of t p) ps []).tree in
-    let same : sum_by (λ (e : Node). e.0.length) (set (children t) p a) ≡ sum_by (λ (e : Node). e.0.length) (children (with_edges (set (children t) p b) t)) =
-    ap (λ (z : Node). sum_by (λ (e : Node). e.0.length) (set (children t) p z)) (tree-out c d (child_of t p) ps out [])
-    ∙ ap (λ (z : List Node). sum_by (λ (e : Node). e.0.length) z) (sym (trees-forest (set (children t) p b))) in
+fit_edit : (e : Edit) (d : ℕ) (t : Node) (path : List ℕ) (out : List Node) → IsFit t → FitsAt e d t path → IsFit (edit e d t path out).tree
+fit_edit (resize long bytes room) zero t path out is fits = absurd (let a = is.branch in let b = fits.0.flat in let e = sym a ∙ b in cc)
+fit_edit (exchange x) zero t path out is fits = fit_exchanged x t path out is fits.0
+fit_edit e (suc d) t [] out is fits = absurd fits
+fit_edit e (suc d) t (p ∷ ps) out is fits =
+    let a = (edit e d (child_of t p) ps out).tree in
+    let same = ap (λ (z : Node). total (set (children t) p z)) (edit_tree e d (child_of t p) ps out []) in
     let long : length (children (with_edges (set (children t) p a) t)) ≡ length (set (children t) p a) = ap (λ (z : List Node). length z) (trees-forest (set (children t) p a)) in
     let kept = length-set (children t) p a in
     let short = fits.3 in
@@ -197,18 +193,18 @@ fit_edit c (suc d) t (p ∷ ps) out is fits =
 
 pub fit_edits : (cs : List (ℕ × Change)) (s : Site) → IsFit s.tree → FitEach cs s → IsFit (edits cs s).tree
 fit_edits [] s is fits = is
-fit_edits (c ∷ cs) s is fits = fit_edits cs (edit c.1 c.0 s.tree s.path s.out) (fit_edit c.1 c.0 s.tree s.path s.out is fits.0) fits.1
+fit_edits (c ∷ cs) s is fits = fit_edits cs (change_at c.1 c.0 s) (fit_edit (edit_of c.1 (at_depth c.0 s.tree s.path)) c.0 s.tree s.path s.out is fits.0.0) fits.1
 
 -- ---- at a Branch: changes below it
 pub no_path : (cs : List (ℕ × Change)) (t : Node) (out : List Node) → 0 < length cs → AreDeep 1 cs → FitEach cs (site t [] out) → ⊥
 no_path [] t out some deep fits = absurd (omega arith)
 no_path ((zero, c) ∷ cs) t out some deep fits = absurd (let e : 1 ≤ 0 = deep.0 in omega arith)
-no_path ((suc d, c) ∷ cs) t out some deep fits = fits.0
+no_path ((suc d, c) ∷ cs) t out some deep fits = fits.0.0
 
 pub in_kids : (cs : List (ℕ × Change)) (t : Node) (p : ℕ) (ps : List ℕ) (out : List Node) → 0 < length cs → AreDeep 1 cs → FitEach cs (site t (p ∷ ps) out) → p < length (children t)
 in_kids [] t p ps out some deep fits = absurd (omega arith)
 in_kids ((zero, c) ∷ cs) t p ps out some deep fits = absurd (let e : 1 ≤ 0 = deep.0 in omega arith)
-in_kids ((suc d, c) ∷ cs) t p ps out some deep fits = fits.0.1
+in_kids ((suc d, c) ∷ cs) t p ps out some deep fits = fits.0.0.1
 
 set-get_or : (xs : List Node) (i : ℕ) (d : Node) → set xs i (get_or xs i d) ≡ xs
 set-get_or [] i d = refl
@@ -220,45 +216,35 @@ set-twice [] i a b = refl
 set-twice (x ∷ xs) zero a b = refl
 set-twice (x ∷ xs) (suc i) a b = ap (λ (z : List Node). x ∷ z) (set-twice xs i a b)
 
-child-raised : (t : Node) (p : ℕ) (s : Site) → p < length (children t) → child_of (raised t p s).tree p ≡ s.tree
-child-raised t p s l =
-    ap (λ (z : List Node). get_or z p (raised t p s).tree) (trees-forest (set (children t) p s.tree)) ∙ get_or-set_same (children t) p s.tree (raised t p s).tree l
-
 raised-raised : (t : Node) (p : ℕ) (s r : Site) → raised (raised t p s).tree p r ≡ raised t p r
 raised-raised t p s r =
     ap (λ (z : List Node). site (with_edges z t) (p ∷ r.path) r.out)
     (ap (λ (z : List Node). set z p r.tree) (trees-forest (set (children t) p s.tree)) ∙ set-twice (children t) p s.tree r.tree)
-
-within-raised : (t : Node) (p : ℕ) (s : Site) → p < length (children t) → p < length (children (raised t p s).tree)
-within-raised t p s l =
-    let long : length (children (raised t p s).tree) ≡ length (set (children t) p s.tree) = ap (λ (z : List Node). length z) (trees-forest (set (children t) p s.tree)) in
-    let kept = length-set (children t) p s.tree in
-    omega arith
 
 pub deeper-edits : (cs : List (ℕ × Change)) (t : Node) (p : ℕ) (ps : List ℕ) (out : List Node) → AreDeep 1 cs → IsSummed t → p < length (children t)
     → edits cs (site t (p ∷ ps) out) ≡ raised t p (edits (lowered 1 cs) (site (child_of t p) ps out))
 deeper-edits [] t p ps out deep sum l = ap (λ (z : Node). site z (p ∷ ps) out) (sum ∙ ap (λ (z : List Node). with_edges z t) (sym (set-get_or (children t) p t)))
 deeper-edits ((zero, c) ∷ cs) t p ps out deep sum l = absurd (let e : 1 ≤ 0 = deep.0 in omega arith)
 deeper-edits ((suc d, c) ∷ cs) t p ps out deep sum l =
-    let s = edit c d (child_of t p) ps out in
+    let s = change_at c d (site (child_of t p) ps out) in
     let u = (raised t p s).tree in
     let e : d ≡ suc d - 1 = omega arith in
-    deeper-edits cs u p s.path s.out deep.1 (summed-edges (set (children t) p s.tree) t) (within-raised t p s l)
+    deeper-edits cs u p s.path s.out deep.1 (summed-edges (set (children t) p s.tree) t) (raised_within t p s l)
     ∙ (raised-raised t p s (edits (lowered 1 cs) (site (child_of u p) s.path s.out))
-    ∙ (ap (λ (z : Node). raised t p (edits (lowered 1 cs) (site z s.path s.out))) (child-raised t p s l)
-    ∙ ap (λ (z : ℕ). raised t p (edits (lowered 1 cs) (edit c z (child_of t p) ps out))) e))
+    ∙ (ap (λ (z : Node). raised t p (edits (lowered 1 cs) (site z s.path s.out))) (raised_child t p s l)
+    ∙ ap (λ (z : ℕ). raised t p (edits (lowered 1 cs) (change_at c z (site (child_of t p) ps out)))) e))
 
 pub deeper-fits : (cs : List (ℕ × Change)) (t : Node) (p : ℕ) (ps : List ℕ) (out : List Node) → AreDeep 1 cs → p < length (children t)
     → FitEach cs (site t (p ∷ ps) out) → FitEach (lowered 1 cs) (site (child_of t p) ps out)
 deeper-fits [] t p ps out deep l fits = tt
 deeper-fits ((zero, c) ∷ cs) t p ps out deep l fits = absurd (let e : 1 ≤ 0 = deep.0 in omega arith)
 deeper-fits ((suc d, c) ∷ cs) t p ps out deep l fits =
-    let s = edit c d (child_of t p) ps out in
+    let s = change_at c d (site (child_of t p) ps out) in
     let u = (raised t p s).tree in
     let e : d ≡ suc d - 1 = omega arith in
-    let later = deeper-fits cs u p s.path s.out deep.1 (within-raised t p s l) fits.1 in
-    let rest : FitEach (lowered 1 cs) s = subst (λ (z : Node). FitEach (lowered 1 cs) (site z s.path s.out)) (child-raised t p s l) later in
-    subst (λ (z : ℕ). FitsAt c z (child_of t p) ps × FitEach (lowered 1 cs) (edit c z (child_of t p) ps out)) e (fits.0.2, rest)
+    let later = deeper-fits cs u p s.path s.out deep.1 (raised_within t p s l) fits.1 in
+    let rest : FitEach (lowered 1 cs) s = subst (λ (z : Node). FitEach (lowered 1 cs) (site z s.path s.out)) (raised_child t p s l) later in
+    subst (λ (z : ℕ). ChangeFits c z (site (child_of t p) ps out) × FitEach (lowered 1 cs) (change_at c z (site (child_of t p) ps out))) e ((fits.0.0.2, fits.0.1), rest)
 
 -- ---- at a Branch: changes of its own edges
 -- the end of changes of a Branch's own edges
@@ -279,17 +265,17 @@ own_step x xs s end fits later =
 
 pub own : (cs : List (ℕ × Change)) (s : Site) → AreAt 0 cs → s.tree.0.kind ≡ kinds.Branch → IsSummed s.tree → FitEach cs s → IsOwn (exchanges_in cs) s (edits cs s)
 own [] s at branch sum fits = record { can = tt; tree = sum; out = refl }
-own ((zero, Fill more) ∷ cs) s at branch sum fits = absurd (let b = fits.0.0.flat in let e = sym branch ∙ b in cc)
-own ((zero, Shorten n) ∷ cs) s at branch sum fits = absurd (let b = fits.0.0.flat in let e = sym branch ∙ b in cc)
+own ((zero, Fill more) ∷ cs) s at branch sum fits = absurd (let b = fits.0.0.0.flat in let e = sym branch ∙ b in cc)
+own ((zero, Shorten n) ∷ cs) s at branch sum fits = absurd (let b = fits.0.0.0.flat in let e = sym branch ∙ b in cc)
 own ((zero, Add side es) ∷ cs) s at branch sum fits =
     let x = exchange_in (Add side es) in
-    own_step x (exchanges_in cs) s (edits cs (exchanged x s)) fits.0.0 (own cs (exchanged x s) at.1 branch (summed-edges (edges_after x (children s.tree)) s.tree) fits.1)
+    own_step x (exchanges_in cs) s (edits cs (exchanged x s)) fits.0.0.0 (own cs (exchanged x s) at.1 branch (summed-edges (edges_after x (children s.tree)) s.tree) fits.1)
 own ((zero, Drop side n) ∷ cs) s at branch sum fits =
     let x = exchange_in (Drop side n) in
-    own_step x (exchanges_in cs) s (edits cs (exchanged x s)) fits.0.0 (own cs (exchanged x s) at.1 branch (summed-edges (edges_after x (children s.tree)) s.tree) fits.1)
+    own_step x (exchanges_in cs) s (edits cs (exchanged x s)) fits.0.0.0 (own cs (exchanged x s) at.1 branch (summed-edges (edges_after x (children s.tree)) s.tree) fits.1)
 own ((zero, Swap side y) ∷ cs) s at branch sum fits =
     let x = exchange_in (Swap side y) in
-    own_step x (exchanges_in cs) s (edits cs (exchanged x s)) fits.0.0 (own cs (exchanged x s) at.1 branch (summed-edges (edges_after x (children s.tree)) s.tree) fits.1)
+    own_step x (exchanges_in cs) s (edits cs (exchanged x s)) fits.0.0.0 (own cs (exchanged x s) at.1 branch (summed-edges (edges_after x (children s.tree)) s.tree) fits.1)
 own ((suc d, c) ∷ cs) s at branch sum fits = absurd (let e : suc d ≡ 0 = at.0 in omega arith)
 
 -- what may go is what goes
@@ -304,31 +290,28 @@ count-most (c ∷ cs) es few can =
 abbrev pub branch_at : ℕ → ℕ → ℕ → List Node → Node
 branch_at n l h es = (record { number = n; kind = kinds.Branch; length = l; bytes = []; more = h }, forest es)
 
-abbrev pub total_of : List Node → ℕ
-total_of es = sum_by (λ (e : Node). e.0.length) es
-
 -- what exchanges make of a Branch with these edges
 pub record IsMadeBy (n h : ℕ) (xs : List Exchange) (es before : List Node) (end : Site) : Type 0 where
   pub can : CanExchange xs es
-  pub tree : branch_at n (total_of (all_after xs es)) h (all_after xs es) ≡ end.tree
+  pub tree : branch_at n (total (all_after xs es)) h (all_after xs es) ≡ end.tree
   pub out : all_out xs es before ≡ end.out
-  pub short : total_of (all_after xs es) < 2 ^ 63
+  pub short : total (all_after xs es) < 2 ^ 63
   pub some : 0 < length (all_after xs es)
   pub few : length (all_after xs es) ≤ 6
 
-pub made_own : (cs : List (ℕ × Change)) (n h : ℕ) (es : List Node) (path : List ℕ) (out : List Node) → AreAt 0 cs → IsFit (branch_at n (total_of es) h es) → FitEach cs (site (branch_at n (total_of es) h es) path out)
-    → IsMadeBy n h (exchanges_in cs) es out (edits cs (site (branch_at n (total_of es) h es) path out))
+pub made_own : (cs : List (ℕ × Change)) (n h : ℕ) (es : List Node) (path : List ℕ) (out : List Node) → AreAt 0 cs → IsFit (branch_at n (total es) h es) → FitEach cs (site (branch_at n (total es) h es) path out)
+    → IsMadeBy n h (exchanges_in cs) es out (edits cs (site (branch_at n (total es) h es) path out))
 made_own cs n h es path out at is fits =
-    let t = branch_at n (total_of es) h es in
+    let t = branch_at n (total es) h es in
     let s = site t path out in
     let kids : children t ≡ es = trees-forest es in
-    let sum : IsSummed t = ap (λ (z : List Node). branch_at n (total_of z) h z) (sym kids) in
+    let sum : IsSummed t = ap (λ (z : List Node). branch_at n (total z) h z) (sym kids) in
     let o = own cs s at refl sum fits in
     let f = fit_edits cs s is fits in
     let xs = exchanges_in cs in
-    let made : (edits cs s).tree ≡ branch_at n (total_of (all_after xs es)) h (all_after xs es) = o.tree ∙ ap (λ (z : List Node). branch_at n (total_of (all_after xs z)) h (all_after xs z)) kids in
+    let made : (edits cs s).tree ≡ branch_at n (total (all_after xs es)) h (all_after xs es) = o.tree ∙ ap (λ (z : List Node). branch_at n (total (all_after xs z)) h (all_after xs z)) kids in
     let long : length (children (edits cs s).tree) ≡ length (all_after xs es) = ap (λ (z : Node). length (children z)) made ∙ ap (λ (z : List Node). length z) (trees-forest (all_after xs es)) in
-    let total : (edits cs s).tree.0.length ≡ total_of (all_after xs es) = ap (λ (z : Node). z.0.length) made in
+    let sum_ : (edits cs s).tree.0.length ≡ total (all_after xs es) = ap (λ (z : Node). z.0.length) made in
     let short = f.short in
     let some = f.some in
     let few = f.few in

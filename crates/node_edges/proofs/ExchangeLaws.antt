@@ -5,7 +5,8 @@ use Rattle.std.proofs.lemmas.List.{map-append, reverse-append, take_more, drop_a
 use Rattle.std.proofs.Math.Seq.{take-append_seam, drop-append_seam}
 use Rattle.node_edges.specs.declared.change.Change.{Change}
 use Rattle.node_edges.specs.declared.exchange.Ready.{Ready}
-use Rattle.node_edges.specs.Changes.{Exchange, exchange_in}
+use Rattle.node_forest.specs.Changes.{Exchange}
+use Rattle.node_edges.specs.Changes.{exchange_in}
 use Rattle.node_edges.specs.Levels.{exchange_of, exchanges_in}
 
 module _ {X : Type 0} where

@@ -6,16 +6,16 @@ use native.Mathlib.Decide.{ℕ_discrete}
 use Rattle.std.proofs.lemmas.List.{get_or_read}
 use Rattle.node_forest.specs.Forest.{children}
 use Rattle.node_forest.specs.Label.{Node}
-use Rattle.node_forest.specs.Paths.{child_of}
+use Rattle.node_forest.specs.Paths.{child_of, at_depth}
 use Rattle.node_forest.proofs.Maps.{trees-forest}
 use Rattle.node_edges.specs.declared.change.Change.{Change}
-use Rattle.node_edges.specs.declared.change.Change.TheVariants as the
 use Rattle.node_edges.specs.declared.edge.Body.{Body}
 use Rattle.node_edges.specs.declared.edge.Body.TheVariants.{Flat, External, Part, Sum, Branch}
 use Rattle.node_edges.specs.Body.{node_with, IsMade}
-use Rattle.node_edges.specs.Changes.{Exchange, Site, site, raised, FitsAt, edits, FitEach}
+use Rattle.node_forest.specs.Changes.{Exchange, Edit, resize, exchange, Site, site, total, raised, FitsAt}
+use Rattle.node_edges.specs.Changes.{edit_of, edits, FitEach}
 use Rattle.node_edges.specs.Levels.{exchanges_in, all_count, all_bytes, all_room, FitAllBytes, most_out, lowered, AreDeep, AreAt}
-use Rattle.node_edges.proofs.EditLaws.{edits-append, fits-append, most-append, lowered-append, lowered-lowered, length-lowered, exchanges-lowered, deep-lowered, at-lowered, flat_at, flat_fits, flat_edits, bytes-lowered, room-lowered, fit-lowered, IsFit, fit_edits, no_path, in_kids, deeper-edits, deeper-fits, count-most, branch_at, total_of, IsMadeBy, made_own}
+use Rattle.node_edges.proofs.EditLaws.{edits-append, fits-append, most-append, lowered-append, lowered-lowered, length-lowered, exchanges-lowered, deep-lowered, at-lowered, flat_at, flat_fits, flat_edits, bytes-lowered, room-lowered, fit-lowered, IsFit, fit_edits, no_path, in_kids, deeper-edits, deeper-fits, count-most, branch_at, IsMadeBy, made_own}
 
 -- ---- at a flat
 module _ (cs : List (ℕ × Change)) (depth n l room : ℕ) (bytes : Vec ℕ) (v : Body) (e : Node) (path : List ℕ) (out : List Node) (is : Flat bytes room ≡ v) (view : node_with n l v ≡ e) (inv : IsMade l v)
@@ -47,7 +47,7 @@ pub record IsLevel (cs : List (ℕ × Change)) (n h : ℕ) (xs : List Exchange) 
 module _ (cs : List (ℕ × Change)) (depth n l h : ℕ) (es : Vec Node) (v : Body) (e : Node) (path : List ℕ) (out : List Node) (is : Branch h es ≡ v) (view : node_with n l v ≡ e) (inv : IsMade l v)
     (fits : FitEach (lowered depth cs) (site e path out)) where
   t : Node
-  t = branch_at n (total_of es.items) h es.items
+  t = branch_at n (total es.items) h es.items
 
   here : IsMade l (Branch h es)
   here = subst (IsMade l) (sym is) inv
@@ -59,10 +59,10 @@ module _ (cs : List (ℕ × Change)) (depth n l h : ℕ) (es : Vec Node) (v : Bo
   fit : IsFit t
   unfolding t
   fit =
-      let long : length (children (branch_at n (total_of es.items) h es.items)) ≡ length es.items = ap (λ (z : List Node). length z) (trees-forest es.items) in
+      let long : length (children (branch_at n (total es.items) h es.items)) ≡ length es.items = ap (λ (z : List Node). length z) (trees-forest es.items) in
       let some : 0 < length es.items = here.body.few.0 in
       let few : length es.items ≤ 6 = here.body.few.1 in
-      let short : total_of es.items < 2 ^ 63 = here.body.small in
+      let short : total es.items < 2 ^ 63 = here.body.small in
       record { branch = refl; short = short; some = omega arith; few = omega arith }
 
   pub branch-few : length es.items ≤ 6
@@ -145,18 +145,18 @@ module _ (cs : List (ℕ × Change)) (depth n l h : ℕ) (es : Vec Node) (v : Bo
         kids = set es.items p s.tree
 
         -- the end of the deeper changes
-        after_a : edits a (site t path out) ≡ site (branch_at n (total_of kids) h kids) (p ∷ s.path) s.out
+        after_a : edits a (site t path out) ≡ site (branch_at n (total kids) h kids) (p ∷ s.path) s.out
         unfolding t kids
         after_a =
             ap (λ (z : List ℕ). edits a (site t z out)) split
-            ∙ (deeper-edits a t p ps out deep_a (ap (λ (z : List Node). branch_at n (total_of z) h z) (sym (trees-forest es.items))) within_t
+            ∙ (deeper-edits a t p ps out deep_a (ap (λ (z : List Node). branch_at n (total z) h z) (sym (trees-forest es.items))) within_t
             ∙ (ap (λ (z : Site). raised t p z) (ap (λ (z : Node). edits (lowered 1 a) (site z ps out)) child_same ∙ ap (λ (z : List (ℕ × Change)). edits z (site child ps out)) lower)
-            ∙ ap (λ (z : List Node). let ks = set z p s.tree in site (branch_at n (total_of ks) h ks) (p ∷ s.path) s.out) (trees-forest es.items)))
+            ∙ ap (λ (z : List Node). let ks = set z p s.tree in site (branch_at n (total ks) h ks) (p ∷ s.path) s.out) (trees-forest es.items)))
 
-        fit_kids : IsFit (branch_at n (total_of kids) h kids)
+        fit_kids : IsFit (branch_at n (total kids) h kids)
         fit_kids = subst (λ (z : Site). IsFit z.tree) after_a (fit_edits a (site t path out) fit two.0)
 
-        whole : edits b (site (branch_at n (total_of kids) h kids) (p ∷ s.path) s.out) ≡ edits (lowered depth cs) (site e path out)
+        whole : edits b (site (branch_at n (total kids) h kids) (p ∷ s.path) s.out) ≡ edits (lowered depth cs) (site e path out)
         whole =
             ap (edits b) (sym after_a)
             ∙ (sym (edits-append a b (site t path out))
@@ -169,7 +169,7 @@ module _ (cs : List (ℕ × Change)) (depth n l h : ℕ) (es : Vec Node) (v : Bo
             let made = made_own b n h kids (p ∷ s.path) s.out (at-lowered depth (drop k cs) at) fit_kids (subst (λ (z : Site). FitEach b z) after_a two.1) in
             let moved = subst (λ (z : Site). IsMadeBy n h (exchanges_in b) kids s.out z) whole made in
             let own = subst (λ (z : List Exchange). IsMadeBy n h z kids s.out (edits (lowered depth cs) (site e path out))) (exchanges-lowered depth (drop k cs)) moved in
-            let few : length kids ≤ 6 = (let f = fit_kids.few in let long : length (children (branch_at n (total_of kids) h kids)) ≡ length kids = ap (λ (z : List Node). length z) (trees-forest kids) in omega arith) in
+            let few : length kids ≤ 6 = (let f = fit_kids.few in let long : length (children (branch_at n (total kids) h kids)) ≡ length kids = ap (λ (z : List Node). length z) (trees-forest kids) in omega arith) in
             record {
               made = subst (λ (z : List Exchange). IsMadeBy n h z kids s.out (edits (lowered depth cs) (site e path out))) (sym all) own;
               count = ap all_count all ∙ count-most (drop k cs) kids few own.can;
@@ -186,37 +186,29 @@ pub most-parts : (k : ℕ) (cs : List (ℕ × Change)) → most_out cs ≡ most_
 most-parts k cs = ap most_out (sym (take-append-drop k cs)) ∙ most-append (take k cs) (drop k cs)
 
 -- ---- at other nodes
-no_other : (c : Change) (d n l : ℕ) (v : Body) (path : List ℕ) → FitsAt c d (node_with n l v) path → ((bytes : Vec ℕ) (room : ℕ) → v ≡ Flat bytes room → ⊥) → ((h : ℕ) (es : Vec Node) → v ≡ Branch h es → ⊥) → ⊥
-no_other c d n l (Flat bytes room) path fits no_flat no_branch = no_flat bytes room refl
-no_other c d n l (Branch h es) path fits no_flat no_branch = no_branch h es refl
-no_other (the.Fill more) zero n l (External bytes slot) path fits no_flat no_branch = let f = fits.0.flat in absurd (cc)
-no_other (the.Shorten m) zero n l (External bytes slot) path fits no_flat no_branch = let f = fits.0.flat in absurd (cc)
-no_other (the.Add side es) zero n l (External bytes slot) path fits no_flat no_branch = let f = fits.0.branch in absurd (cc)
-no_other (the.Drop side m) zero n l (External bytes slot) path fits no_flat no_branch = let f = fits.0.branch in absurd (cc)
-no_other (the.Swap side x) zero n l (External bytes slot) path fits no_flat no_branch = let f = fits.0.branch in absurd (cc)
-no_other c (suc d) n l (External bytes slot) [] fits no_flat no_branch = fits
-no_other c (suc d) n l (External bytes slot) (p ∷ ps) fits no_flat no_branch = let f = fits.0 in absurd (cc)
-no_other (the.Fill more) zero n l (Part start long child) path fits no_flat no_branch = let f = fits.0.flat in absurd (cc)
-no_other (the.Shorten m) zero n l (Part start long child) path fits no_flat no_branch = let f = fits.0.flat in absurd (cc)
-no_other (the.Add side es) zero n l (Part start long child) path fits no_flat no_branch = let f = fits.0.branch in absurd (cc)
-no_other (the.Drop side m) zero n l (Part start long child) path fits no_flat no_branch = let f = fits.0.branch in absurd (cc)
-no_other (the.Swap side x) zero n l (Part start long child) path fits no_flat no_branch = let f = fits.0.branch in absurd (cc)
-no_other c (suc d) n l (Part start long child) [] fits no_flat no_branch = fits
-no_other c (suc d) n l (Part start long child) (p ∷ ps) fits no_flat no_branch = let f = fits.0 in absurd (cc)
-no_other (the.Fill more) zero n l (Sum value child) path fits no_flat no_branch = let f = fits.0.flat in absurd (cc)
-no_other (the.Shorten m) zero n l (Sum value child) path fits no_flat no_branch = let f = fits.0.flat in absurd (cc)
-no_other (the.Add side es) zero n l (Sum value child) path fits no_flat no_branch = let f = fits.0.branch in absurd (cc)
-no_other (the.Drop side m) zero n l (Sum value child) path fits no_flat no_branch = let f = fits.0.branch in absurd (cc)
-no_other (the.Swap side x) zero n l (Sum value child) path fits no_flat no_branch = let f = fits.0.branch in absurd (cc)
-no_other c (suc d) n l (Sum value child) [] fits no_flat no_branch = fits
-no_other c (suc d) n l (Sum value child) (p ∷ ps) fits no_flat no_branch = let f = fits.0 in absurd (cc)
+no_other : (e : Edit) (d n l : ℕ) (v : Body) (path : List ℕ) → FitsAt e d (node_with n l v) path → ((bytes : Vec ℕ) (room : ℕ) → v ≡ Flat bytes room → ⊥) → ((h : ℕ) (es : Vec Node) → v ≡ Branch h es → ⊥) → ⊥
+no_other e d n l (Flat bytes room) path fits no_flat no_branch = no_flat bytes room refl
+no_other e d n l (Branch h es) path fits no_flat no_branch = no_branch h es refl
+no_other (resize bytes_long held kept) zero n l (External bytes slot) path fits no_flat no_branch = let f = fits.0.flat in absurd (cc)
+no_other (exchange x) zero n l (External bytes slot) path fits no_flat no_branch = let f = fits.0.branch in absurd (cc)
+no_other e (suc d) n l (External bytes slot) [] fits no_flat no_branch = fits
+no_other e (suc d) n l (External bytes slot) (p ∷ ps) fits no_flat no_branch = let f = fits.0 in absurd (cc)
+no_other (resize bytes_long held kept) zero n l (Part start long child) path fits no_flat no_branch = let f = fits.0.flat in absurd (cc)
+no_other (exchange x) zero n l (Part start long child) path fits no_flat no_branch = let f = fits.0.branch in absurd (cc)
+no_other e (suc d) n l (Part start long child) [] fits no_flat no_branch = fits
+no_other e (suc d) n l (Part start long child) (p ∷ ps) fits no_flat no_branch = let f = fits.0 in absurd (cc)
+no_other (resize bytes_long held kept) zero n l (Sum value child) path fits no_flat no_branch = let f = fits.0.flat in absurd (cc)
+no_other (exchange x) zero n l (Sum value child) path fits no_flat no_branch = let f = fits.0.branch in absurd (cc)
+no_other e (suc d) n l (Sum value child) [] fits no_flat no_branch = fits
+no_other e (suc d) n l (Sum value child) (p ∷ ps) fits no_flat no_branch = let f = fits.0 in absurd (cc)
 
 -- a node to which a change fits is a flat or a Branch
 pub fits-kinds : (cs : List (ℕ × Change)) (depth n l : ℕ) (v : Body) (e : Node) (path : List ℕ) (out : List Node) → 0 < length cs → node_with n l v ≡ e → FitEach (lowered depth cs) (site e path out)
     → ((bytes : Vec ℕ) (room : ℕ) → v ≡ Flat bytes room → ⊥) → ((h : ℕ) (es : Vec Node) → v ≡ Branch h es → ⊥) → ⊥
 fits-kinds [] depth n l v e path out some view fits no_flat no_branch = absurd (omega arith)
 fits-kinds (c ∷ cs) depth n l v e path out some view fits no_flat no_branch =
-    no_other c.1 (c.0 - depth) n l v path (subst (λ (z : Node). FitsAt c.1 (c.0 - depth) z path) (sym view) fits.0) no_flat no_branch
+    no_other (edit_of c.1 (at_depth (c.0 - depth) e path)) (c.0 - depth) n l v path
+    (subst (λ (z : Node). FitsAt (edit_of c.1 (at_depth (c.0 - depth) e path)) (c.0 - depth) z path) (sym view) fits.0.0) no_flat no_branch
 
 -- ---- what the code's tests tell
 pub none-there : {X : Type 0} (xs : List X) → true ≡ eqb (length xs) 0 → length xs ≡ 0

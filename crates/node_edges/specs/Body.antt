@@ -1,8 +1,9 @@
 -- What contracts see of an edge: a node, from the edge's number, its length and its body.
-use Rattle.std.specs.Prelude.{◌≡◌, ℕ, ◌^◌, ◌<◌, ◌≤◌, List, [], ◌∷◌, length, sum_by, Some, None}
+use Rattle.std.specs.Prelude.{◌≡◌, ℕ, ◌^◌, ◌<◌, ◌≤◌, List, [], ◌∷◌, length, Some, None}
 use Rattle.node_forest.specs.declared.kind.Kind.TheVariants as kinds
 use Rattle.node_forest.specs.Forest.{empty, forest}
 use Rattle.node_forest.specs.Label.{Label, Node}
+use Rattle.node_forest.specs.Changes.{total}
 use Rattle.node_edges.specs.declared.edge.Body.{Body}
 use Rattle.node_edges.specs.declared.edge.Body.TheVariants.{Flat, External, Part, Sum, Branch}
 
@@ -33,7 +34,7 @@ body_length (External bytes slot) = length bytes.items
 body_length (Part start long child) = long
 body_length (Sum value None) = 0
 body_length (Sum value (Some child)) = child.0.length
-body_length (Branch h es) = sum_by (λ e. e.0.length) es.items
+body_length (Branch h es) = total es.items
 
 -- the node with this number and this body
 abbrev pub node_of : ℕ → Body → Node
@@ -50,7 +51,7 @@ flat_node n bytes room = (record { number = n; kind = kinds.Flat; length = lengt
 
 -- the node of a Branch over these edges
 abbrev pub branch_node : ℕ → ℕ → List Node → Node
-branch_node n h es = (record { number = n; kind = kinds.Branch; length = sum_by (λ e. e.0.length) es; bytes = []; more = h }, forest es)
+branch_node n h es = (record { number = n; kind = kinds.Branch; length = total es; bytes = []; more = h }, forest es)
 
 -- what may be a node's body
 pub record IsBody (b : Body) : Type 0 where
@@ -74,7 +75,7 @@ pub record IsNodeOf (b : Body) (e : Node) : Type 0 where
 -- e is a Branch of these edges
 pub record IsBranchOf (h : ℕ) (es : List Node) (e : Node) : Type 0 where
   pub body : e ≡ (record { number = e.0.number; kind = kinds.Branch; length = e.0.length; bytes = []; more = h }, forest es)
-  pub long : e.0.length ≡ sum_by (λ c. c.0.length) es
+  pub long : e.0.length ≡ total es
 
 -- the same under another number
 abbrev pub renumbered : ℕ → Node → Node

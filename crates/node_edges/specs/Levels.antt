@@ -4,7 +4,8 @@ use Rattle.node_forest.specs.Label.{Node}
 use Rattle.node_edges.specs.declared.change.Change.{Change}
 use Rattle.node_edges.specs.declared.change.Change.TheVariants.{Fill, Shorten}
 use Rattle.node_edges.specs.declared.exchange.Ready.{Ready}
-use Rattle.node_edges.specs.Changes.{Exchange, exchange_in, edges_after, edges_out}
+use Rattle.node_forest.specs.Changes.{Exchange, edges_after, edges_out}
+use Rattle.node_edges.specs.Changes.{exchange_in}
 
 -- ---- exchanges at one Branch
 abbrev pub exchange_of : Ready → Exchange

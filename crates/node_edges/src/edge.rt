@@ -1,5 +1,6 @@
 //! Edges and their bodies.
-ghost use Rattle.std.specs.Prelude.{◌≡◌, ◌^◌, ◌<◌, sum_by, IfOk};
+ghost use Rattle.std.specs.Prelude.{◌≡◌, ◌^◌, ◌<◌, IfOk};
+ghost use Rattle.node_forest.specs.Changes.{total};
 ghost use Rattle.node_edges.specs.Body.{IsNodeOf, IsBody, body_length, node_of, renumbered};
 ghost use Rattle.node_edges.specs.Text.{text};
 
@@ -177,8 +178,8 @@ impl Body {
 
 /// The lengths of the edges together.
 pub(crate) fn total(edges: &[Edge]) -> u64
-    requires { sum_by (λ e. e.0.length) edges.now < 2 ^ 63 }
-    ensures { result ≡ sum_by (λ e. e.0.length) edges.now }
+    requires { total edges.now < 2 ^ 63 }
+    ensures { result ≡ total edges.now }
 {
     let mut sum = 0u64;
     for edge in edges {

@@ -2,7 +2,8 @@
 ghost use Rattle.std.specs.Prelude.{◌≡◌, ℕ, ◌+◌, ◌^◌, ◌<◌, ◌≤◌, [], length, take, drop, vec_len, vec_capacity, OnOk, OnErr, IfOk};
 ghost use Rattle.node_forest.specs.Paths.{NeverDeeper};
 ghost use Rattle.node_edges.specs.Body.{IsBody, IsCopy};
-ghost use Rattle.node_edges.specs.Changes.{site, edits, FitEach};
+ghost use Rattle.node_forest.specs.Changes.{site};
+ghost use Rattle.node_edges.specs.Changes.{edits, FitEach};
 ghost use Rattle.node_edges.specs.Levels.{lowered, AreDeep, AreAt, most_out};
 
 use crate::change::Change;

@@ -1,6 +1,7 @@
 //! Edges of a Branch that go, and others that come in their place, with all that this needs made beforehand.
 ghost use Rattle.std.specs.Prelude.{◌≡◌, ℕ, ◌+◌, ◌*◌, ◌^◌, ◌≤◌, ◌<◌, List, ◌++◌, length, take, drop, map, reverse, vec_len, vec_capacity, IfOk};
-ghost use Rattle.node_edges.specs.Changes.{edges_after, edges_out, exchange_in};
+ghost use Rattle.node_forest.specs.Changes.{edges_after, edges_out};
+ghost use Rattle.node_edges.specs.Changes.{exchange_in};
 ghost use Rattle.node_edges.specs.Levels.{exchange_of, exchanges_in, all_after, all_out, all_count, CanExchange, most_out};
 
 use crate::change::Change;

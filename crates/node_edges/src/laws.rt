@@ -5,7 +5,7 @@ ghost use Rattle.node_forest.specs.declared.kind.Kind.TheVariants.{Flat};
 ghost use Rattle.node_forest.specs.Forest.{children, map_forest};
 ghost use Rattle.node_forest.specs.Label.{Node};
 ghost use Rattle.node_edges.specs.Body.{IsBranchOf};
-ghost use Rattle.node_edges.specs.Changes.{with_bytes, with_edges};
+ghost use Rattle.node_forest.specs.Changes.{with_bytes, with_edges};
 ghost use Rattle.tree_shapes.specs.Shape.{level};
 ghost use Rattle.node_edges.specs.Text.{text, data_edges_at};
 ghost use Rattle.node_edges.specs.Trees.{form_of, shape_of, skeleton_of, IsTreeAt, IsWellFormed};

@@ -6,3 +6,4 @@ pub mod Counts
 pub mod Codes
 pub mod Sides
 pub mod Paths
+pub mod Changes

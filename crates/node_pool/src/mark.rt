@@ -1,14 +1,14 @@
 //! Edges that are changed in place along a lone path.
 ghost use Rattle.std.specs.Prelude.{◌≡◌, ℕ, ◌+◌, ◌≤◌, List, [], ◌∷◌, ◌++◌, length, OnOk, OnErr, IfOk};
 ghost use Rattle.node_forest.specs.Label.{Node, number};
-ghost use Rattle.node_forest.specs.Paths.{NeverDeeper};
-ghost use Rattle.count_core.specs.Marks.{numbers_on};
+ghost use Rattle.node_forest.specs.Paths.{Leads, NeverDeeper, numbers_on};
+ghost use Rattle.node_forest.specs.Changes.{site};
 ghost use Rattle.node_edges.specs.declared.change.Change.{Change};
-ghost use Rattle.node_edges.specs.Changes.{site, FitEach};
+ghost use Rattle.node_edges.specs.Changes.{FitEach};
 ghost use Rattle.pool_rule.specs.Trades.{HasHolds, Trades};
 ghost use Rattle.pool_rule.specs.Views.{with_holds};
-ghost use Rattle.pool_rule.specs.Marks.{Leads, marking, IsLonePath};
-ghost use Rattle.pool_rule.specs.EdgeMarks.{core_changes, all_new, changed_root};
+ghost use Rattle.pool_rule.specs.Marks.{marking, IsLonePath};
+ghost use Rattle.pool_rule.specs.EdgeMarks.{core_changes, HoldsNew, all_new, changed_root};
 ghost use Rattle.node_pool.specs.Edits.{CanMark};
 
 use crate::naming::Naming;
@@ -56,8 +56,9 @@ impl<S, T: Changed> Play<S, TokenView> for Marks<T> {
 
 impl<P: Naming, B: Releaser> Pool<P, B> {
     /// Does all changes of a list, each at its depth of the path, in their order, in place and as one step. The path begins at a
-    /// direct hold, and the number of each node on it is lone. Edges that come are direct holds before, and those that go are
-    /// direct holds then, which the answer lists in the order of their removal. After want of memory nothing has changed.
+    /// direct hold, and the number of each node on it is lone. An edge that comes is a direct hold before, or one that an earlier
+    /// change of the list removed. Edges that go are direct holds then, but for those that came again later; the answer lists
+    /// all of them in the order of their removal. After want of memory nothing has changed.
     pub fn mark(
         &self,
         alloc: Global,
@@ -66,7 +67,8 @@ impl<P: Naming, B: Releaser> Pool<P, B> {
         path: &[u8],
         changes: &[(u8, Change)],
     ) -> Result<Vec<Edge>, Memory>
-        requires held { HasHolds w.old.holds (root.old ∷ all_new changes.now) }
+        requires held { HasHolds w.old.holds (root.old ∷ []) }
+        requires new { HoldsNew (root.old ∷ []) changes.now (site root.old path.now []) w.old.holds }
         requires lone { IsLonePath root.old path.now w.old }
         requires leads { Leads root.old path.now }
         requires few { length changes.now ≤ 26 }

@@ -1,11 +1,12 @@
 //! Changes in place at a Branch of flats, and below it.
 ghost use Rattle.std.specs.Prelude.{◌≡◌, ◌+◌, ◌<◌, ◌≤◌, [], ◌∷◌, length, All, IfSome, IsTrue};
 ghost use Rattle.node_forest.specs.Forest.{children};
-ghost use Rattle.node_forest.specs.Paths.{NeverDeeper};
+ghost use Rattle.node_forest.specs.Paths.{Leads, NeverDeeper};
+ghost use Rattle.node_forest.specs.Changes.{site};
 ghost use Rattle.node_edges.specs.Body.{flat_node, branch_node};
-ghost use Rattle.node_edges.specs.Changes.{site, FitEach};
+ghost use Rattle.node_edges.specs.Changes.{FitEach};
 ghost use Rattle.pool_rule.specs.EdgeMarks.{all_new, changed_root};
-ghost use Rattle.pool_rule.specs.Marks.{Leads, IsLonePath};
+ghost use Rattle.pool_rule.specs.Marks.{IsLonePath};
 ghost use Rattle.pool_rule.specs.Trades.{HasHolds, Trades};
 ghost use Rattle.node_pool.specs.Opened.{opened_table, opened_numbers, opened_passes, opened_workers, opened_boxes};
 
@@ -14,6 +15,7 @@ use crate::{
     paths_that_looks_find_are_lone,
 };
 use cord_port::LogReleaser;
+use pool_rule::held_edges_may_come;
 use std::alloc::Global;
 use std::marker::Brand;
 
@@ -138,6 +140,7 @@ fn changed_below<P: Naming>(
     if !lone_down(pool, w, root, place) {
         return None;
     }
+    held_edges_may_come();
     let Ok(_gone) = pool.mark(alloc, w, root, &[place], changes) else {
         return None;
     };
@@ -248,6 +251,7 @@ fn changed<P: Naming>(
         return None;
     }
     paths_that_looks_find_are_lone();
+    held_edges_may_come();
     let Ok(gone) = pool.mark(alloc, w, root, &[], changes) else {
         return None;
     };

@@ -10,19 +10,21 @@ use Rattle.node_forest.specs.Forest.{children}
 use Rattle.node_forest.specs.Label.{Node, number}
 use Rattle.node_forest.specs.Members.{Occurs}
 use Rattle.node_forest.specs.Counts.{first}
-use Rattle.node_forest.specs.Paths.{child_of}
+use Rattle.node_forest.specs.Paths.{child_of, Leads, numbers_on}
 use Rattle.node_forest.proofs.Maps.{trees-forest}
 use Rattle.node_forest.proofs.Members.{root_occurs, child_occurs, below_in, occurs_split, occurs_left, occurs_right, alone_in, alone_out}
 use Rattle.count_core.specs.Views.{without}
-use Rattle.count_core.specs.Marks.{Change, resize, exchange, Site, site, branch_of, resized, unpulled, edges_after, edit, FitsAt, edits, FitEach, LonePath, FitsRoot, edited_holds, numbers_on}
-use Rattle.node_forest.specs.Sides.{outgoing}
+use Rattle.node_forest.specs.Changes.{Site, site, Edit, resize, exchange, new_in, with_bytes, with_edges, edges_after, edges_out, edit, FitsAt}
+use Rattle.node_forest.proofs.Shuffles.{Shuffled, shuffled_refl, shuffled_append, shuffled_exchange}
+use Rattle.node_forest.proofs.Changes.{child_in}
+use Rattle.count_core.specs.Marks.{Change, unpulled, numbers_in, edit_of, change_at, ChangeFits, edits, FitEach, LonePath, FitsRoot, edited_holds}
 use Rattle.count_core.specs.Steps.{mark, Does, roots, word_at, holds_at}
-use Rattle.count_core.proofs.Edits.{shuffled_exchange, shuffled_without, edit_lone, child_in}
+use Rattle.count_core.proofs.Edits.{shuffled_without, shuffled_holds}
 use Rattle.pool_rule.specs.Views.{View}
 use Rattle.pool_rule.specs.Rules.{holds_of as held_by, world, Among, IsSane, Ruled, Narrow}
 use Rattle.pool_rule.specs.Notes.{use_of}
 use Rattle.pool_rule.specs.Pools.{Terms, Member, AreBare, IsAlone, AreLone, Slotted, Kept}
-use Rattle.pool_rule.specs.Marks.{Leads, marking, CanChange, IsLonePath, marked, KeepsNodes}
+use Rattle.pool_rule.specs.Marks.{marking, CanChange, IsLonePath, marked, KeepsNodes}
 use Rattle.pool_rule.proofs.Allowed.{told}
 use Rattle.pool_rule.proofs.Holds.{child_below, below_child}
 use Rattle.pool_rule.proofs.Pools.{told_after, roots_set}
@@ -60,21 +62,10 @@ set_has x [] p u l o = absurd (omega arith)
 set_has x (t ∷ ts) zero u l o = occurs_left x (u ∷ []) ts o
 set_has x (t ∷ ts) (suc p) u l o = occurs_right x (t ∷ []) (set ts p u) (set_has x ts p u (omega arith) o)
 
--- ---- the path after a change
-pub ones : ℕ → ℕ
-ones n = 1
-
-pub leads_lone : (t : Node) (path : List ℕ) → Leads t path → LonePath ones t path
-unfolding ones
-leads_lone t [] leads = refl
-leads_lone t (p ∷ ps) leads = (refl, leads.0, leads.1, leads_lone (child_of t p) ps leads.2)
-
-lone_leads : (word : ℕ → ℕ) (t : Node) (path : List ℕ) → LonePath word t path → Leads t path
-lone_leads word t [] lone = tt
-lone_leads word t (p ∷ ps) lone = (lone.1, lone.2, lone_leads word (child_of t p) ps lone.3)
-
-leads_edit : (c : Change) (d : ℕ) (t : Node) (path : List ℕ) (hs : List Node) → Leads t path → FitsAt c d t path hs → Leads (edit c d t path hs).tree (edit c d t path hs).path
-leads_edit c d t path hs leads fits = lone_leads ones (edit c d t path hs).tree (edit c d t path hs).path (edit_lone c d t path hs ones (leads_lone t path leads) fits)
+-- ---- a change of the count rule, whose new edges are direct holds
+-- the tree and the holds, of which the change uses some
+before_change : (c : Change) (s : Site) (d : ℕ) → ChangeFits c d s → Shuffled (s.tree ∷ s.out) (s.tree ∷ (new_in (edit_of c s.out) ++ unpulled (numbers_in c) s.out))
+before_change c s d fits = shuffled_append (s.tree ∷ []) (s.tree ∷ []) s.out (new_in (edit_of c s.out) ++ unpulled (numbers_in c) s.out) (shuffled_refl (s.tree ∷ [])) (shuffled_holds c s.out fits.0)
 
 -- ---- a fact of nodes that outlasts a change of what is no external
 module _ (Q : Node → Type 0) (close : (t u : Node) → Q t → number u ≡ number t → u.0.kind ≢ External → Q u) where
@@ -89,88 +80,94 @@ module _ (Q : Node → Type 0) (close : (t u : Node) → Q t → number u ≡ nu
       (λ r. ⊎_elim (λ c. all x (below x c)) (λ h. all x (beside x h)) r)
       (head_or_child x u hs' o)
 
-  kept_edit : (c : Change) (d : ℕ) (t : Node) (path : List ℕ) (hs : List Node) → Leads t path → FitsAt c d t path hs → Holds (t ∷ hs) → Holds ((edit c d t path hs).tree ∷ (edit c d t path hs).holds)
-  kept_edit (resize long bytes more) zero t path hs leads fits all =
+  kept_edit : (e : Edit) (d : ℕ) (t : Node) (path : List ℕ) (out : List Node) → FitsAt e d t path → Holds (t ∷ (new_in e ++ out)) → Holds ((edit e d t path out).tree ∷ (edit e d t path out).out)
+  kept_edit (resize long bytes room) zero t path out fits all =
       let flat = fits.0.flat in
-      remade t (resized t.0 long bytes more, t.1) hs hs all refl (λ e. let f : Flat ≡ External = sym flat ∙ e in cc)
-      (all t (occurs_left t (t ∷ []) hs (root_occurs t (t ∷ []) (inl refl)))).1 (λ x o. of_child x t hs o) (λ x o. occurs_right x (t ∷ []) hs o)
-  kept_edit (exchange side count ms) zero t path hs leads fits all =
-      let kids = edges_after side count ms t hs in
-      let u = branch_of t.0 kids in
-      let holds = unpulled ms hs ++ outgoing side count (children t) in
+      remade t (with_bytes long bytes room t) out out all refl (λ e. let f : Flat ≡ External = sym flat ∙ e in cc)
+      (all t (occurs_left t (t ∷ []) out (root_occurs t (t ∷ []) (inl refl)))).1 (λ x o. of_child x t out o) (λ x o. occurs_right x (t ∷ []) out o)
+  kept_edit (exchange x) zero t path out fits all =
+      let kids = edges_after x (children t) in
+      let u = with_edges kids t in
+      let hs = x.new ++ out in
+      let holds = out ++ edges_out x (children t) in
       let branch = fits.0.branch in
       let is : children u ≡ kids = trees-forest kids in
-      let f = shuffled_exchange side count ms t hs fits.0.pulls in
+      let f = shuffled_exchange x (children t) out in
       let few = fits.0.few in
       let long : length (children u) ≡ length kids = ap (λ (z : List Node). length z) is in
-      let was : (x : Node) → Occurs x (hs ++ children t) → Occurs x (t ∷ hs) = (λ x o. ⊎_elim (λ a. occurs_right x (t ∷ []) hs a) (λ b. of_child x t hs b) (occurs_split x hs (children t) o)) in
+      let was : (y : Node) → Occurs y (hs ++ children t) → Occurs y (t ∷ hs) = (λ y o. ⊎_elim (λ a. occurs_right y (t ∷ []) hs a) (λ b. of_child y t hs b) (occurs_split y hs (children t) o)) in
       remade t u hs holds all refl (λ e. let g : Branch ≡ External = sym branch ∙ e in cc) (omega arith)
-      (λ x o. was x (f.from x (occurs_right x holds kids (subst (λ (z : List Node). Occurs x z) is o))))
-      (λ x o. was x (f.from x (occurs_left x holds kids o)))
-  kept_edit c (suc d) t [] hs leads fits all = absurd fits
-  kept_edit c (suc d) t (p ∷ ps) hs leads fits all =
+      (λ y o. was y (f.from y (occurs_right y holds kids (subst (λ (z : List Node). Occurs y z) is o))))
+      (λ y o. was y (f.from y (occurs_left y holds kids o)))
+  kept_edit e (suc d) t [] out fits all = absurd fits
+  kept_edit e (suc d) t (p ∷ ps) out fits all =
       let child = child_of t p in
-      let s = edit c d child ps hs in
+      let hs = new_in e ++ out in
+      let s = edit e d child ps out in
       let kids = set (children t) p s.tree in
-      let u = branch_of t.0 kids in
-      let branch = leads.0 in
+      let u = with_edges kids t in
+      let branch = fits.0 in
       let is : children u ≡ kids = trees-forest kids in
       let long : length (children u) ≡ length kids = ap (λ (z : List Node). length z) is in
       let kept = length-set (children t) p s.tree in
       let few = (all t (occurs_left t (t ∷ []) hs (root_occurs t (t ∷ []) (inl refl)))).1 in
-      let has_child : Occurs child (children t) = root_occurs child (children t) (child_in t p leads.1) in
+      let has_child : Occurs child (children t) = root_occurs child (children t) (child_in t p fits.1) in
       let under : Holds (child ∷ hs) = (λ x o. ⊎_elim (λ a. all x (of_child x t hs (below_in x child (children t) has_child (alone_out x child a)))) (λ b. all x (occurs_right x (t ∷ []) hs b)) (occurs_split x (child ∷ []) hs o)) in
-      let later = kept_edit c d child ps hs leads.2 fits.1 under in
+      let later = kept_edit e d child ps out fits.2 under in
       (λ x o. ⊎_elim
-      (λ e. subst (λ (z : Node). Q z × (length (children z) ≤ 6)) (sym e) (close t u (all t (occurs_left t (t ∷ []) hs (root_occurs t (t ∷ []) (inl refl)))).0 refl (λ k. let g : Branch ≡ External = sym branch ∙ k in cc), (let q : length (children u) ≤ 6 = omega arith in q)))
+      (λ q. subst (λ (z : Node). Q z × (length (children z) ≤ 6)) (sym q) (close t u (all t (occurs_left t (t ∷ []) hs (root_occurs t (t ∷ []) (inl refl)))).0 refl (λ k. let g : Branch ≡ External = sym branch ∙ k in cc), (let q : length (children u) ≤ 6 = omega arith in q)))
       (λ r. ⊎_elim
-      (λ k. ⊎_elim (λ a. later x (occurs_left x (s.tree ∷ []) s.holds a)) (λ b. all x (of_child x t hs b)) (in_set x (children t) p s.tree (subst (λ (z : List Node). Occurs x z) is k)))
-      (λ h. later x (occurs_right x (s.tree ∷ []) s.holds h)) r)
-      (head_or_child x u s.holds o))
+      (λ k. ⊎_elim (λ a. later x (occurs_left x (s.tree ∷ []) s.out a)) (λ b. all x (of_child x t hs b)) (in_set x (children t) p s.tree (subst (λ (z : List Node). Occurs x z) is k)))
+      (λ h. later x (occurs_right x (s.tree ∷ []) s.out h)) r)
+      (head_or_child x u s.out o))
 
-  pub kept_edits : (cs : List (ℕ × Change)) (s : Site) → Leads s.tree s.path → FitEach cs s → Holds (s.tree ∷ s.holds) → Holds ((edits cs s).tree ∷ (edits cs s).holds)
-  kept_edits [] s leads fits all = all
-  kept_edits (c ∷ cs) s leads fits all =
-      kept_edits cs (edit c.1 c.0 s.tree s.path s.holds) (leads_edit c.1 c.0 s.tree s.path s.holds leads fits.0) fits.1 (kept_edit c.1 c.0 s.tree s.path s.holds leads fits.0 all)
+  pub kept_edits : (cs : List (ℕ × Change)) (s : Site) → FitEach cs s → Holds (s.tree ∷ s.out) → Holds ((edits cs s).tree ∷ (edits cs s).out)
+  kept_edits [] s fits all = all
+  kept_edits (c ∷ cs) s fits all =
+      let f = before_change c.1 s c.0 fits.0 in
+      kept_edits cs (change_at c.1 c.0 s) fits.1 (kept_edit (edit_of c.1 s.out) c.0 s.tree s.path (unpulled (numbers_in c.1) s.out) fits.0.1 (λ x o. all x (f.from x o)))
 
 -- ---- an external occurs after changes where it occurred before
-kept_back : (x : Node) → x.0.kind ≡ External → (c : Change) (d : ℕ) (t : Node) (path : List ℕ) (hs : List Node) → Leads t path → FitsAt c d t path hs → Occurs x (t ∷ hs) → Occurs x ((edit c d t path hs).tree ∷ (edit c d t path hs).holds)
-kept_back x out (resize long bytes more) zero t path hs leads fits o =
-    let u : Node = (resized t.0 long bytes more, t.1) in
-    ⊎_elim (λ e. absurd (let f = fits.0.flat in let g : Flat ≡ External = sym f ∙ (ap (λ (z : Node). z.0.kind) (sym e) ∙ out) in cc))
-    (λ r. ⊎_elim (λ k. of_child x u hs k) (λ h. occurs_right x (u ∷ []) hs h) r)
-    (head_or_child x t hs o)
-kept_back x out (exchange side count ms) zero t path hs leads fits o =
-    let kids = edges_after side count ms t hs in
-    let u = branch_of t.0 kids in
-    let holds = unpulled ms hs ++ outgoing side count (children t) in
-    let f = shuffled_exchange side count ms t hs fits.0.pulls in
+kept_back : (x : Node) → x.0.kind ≡ External → (e : Edit) (d : ℕ) (t : Node) (path : List ℕ) (out : List Node) → FitsAt e d t path → Occurs x (t ∷ (new_in e ++ out)) → Occurs x ((edit e d t path out).tree ∷ (edit e d t path out).out)
+kept_back x is (resize long bytes room) zero t path out fits o =
+    let u = with_bytes long bytes room t in
+    ⊎_elim (λ e. absurd (let f = fits.0.flat in let g : Flat ≡ External = sym f ∙ (ap (λ (z : Node). z.0.kind) (sym e) ∙ is) in cc))
+    (λ r. ⊎_elim (λ k. of_child x u out k) (λ h. occurs_right x (u ∷ []) out h) r)
+    (head_or_child x t out o)
+kept_back x is (exchange y) zero t path out fits o =
+    let kids = edges_after y (children t) in
+    let u = with_edges kids t in
+    let hs = y.new ++ out in
+    let holds = out ++ edges_out y (children t) in
+    let f = shuffled_exchange y (children t) out in
     let moved : Occurs x (hs ++ children t) → Occurs x (u ∷ holds) =
     (λ a. ⊎_elim (λ h. occurs_right x (u ∷ []) holds h) (λ k. of_child x u holds (subst (λ (z : List Node). Occurs x z) (sym (trees-forest kids)) k)) (occurs_split x holds kids (f.to x a))) in
-    ⊎_elim (λ e. absurd (let b = fits.0.branch in let g : Branch ≡ External = sym b ∙ (ap (λ (z : Node). z.0.kind) (sym e) ∙ out) in cc))
+    ⊎_elim (λ e. absurd (let b = fits.0.branch in let g : Branch ≡ External = sym b ∙ (ap (λ (z : Node). z.0.kind) (sym e) ∙ is) in cc))
     (λ r. ⊎_elim (λ k. moved (occurs_right x hs (children t) k)) (λ h. moved (occurs_left x hs (children t) h)) r)
     (head_or_child x t hs o)
-kept_back x out c (suc d) t [] hs leads fits o = absurd fits
-kept_back x out c (suc d) t (p ∷ ps) hs leads fits o =
+kept_back x is e (suc d) t [] out fits o = absurd fits
+kept_back x is e (suc d) t (p ∷ ps) out fits o =
     let child = child_of t p in
-    let s = edit c d child ps hs in
+    let hs = new_in e ++ out in
+    let s = edit e d child ps out in
     let kids = set (children t) p s.tree in
-    let u = branch_of t.0 kids in
-    let later : Occurs x (child ∷ hs) → Occurs x (u ∷ s.holds) =
+    let u = with_edges kids t in
+    let later : Occurs x (child ∷ hs) → Occurs x (u ∷ s.out) =
     (λ a. ⊎_elim
-    (λ b. of_child x u s.holds (subst (λ (z : List Node). Occurs x z) (sym (trees-forest kids)) (set_has x (children t) p s.tree leads.1 b)))
-    (λ h. occurs_right x (u ∷ []) s.holds h)
-    (occurs_split x (s.tree ∷ []) s.holds (kept_back x out c d child ps hs leads.2 fits.1 a))) in
-    ⊎_elim (λ e. absurd (let b = leads.0 in let g : Branch ≡ External = sym b ∙ (ap (λ (z : Node). z.0.kind) (sym e) ∙ out) in cc))
+    (λ b. of_child x u s.out (subst (λ (z : List Node). Occurs x z) (sym (trees-forest kids)) (set_has x (children t) p s.tree fits.1 b)))
+    (λ h. occurs_right x (u ∷ []) s.out h)
+    (occurs_split x (s.tree ∷ []) s.out (kept_back x is e d child ps out fits.2 a))) in
+    ⊎_elim (λ q. absurd (let b = fits.0 in let g : Branch ≡ External = sym b ∙ (ap (λ (z : Node). z.0.kind) (sym q) ∙ is) in cc))
     (λ r. ⊎_elim
-    (λ k. ⊎_elim (λ a. later (occurs_left x (child ∷ []) hs a)) (λ b. of_child x u s.holds (subst (λ (z : List Node). Occurs x z) (sym (trees-forest kids)) b)) (out_set x (children t) p t s.tree leads.1 k))
+    (λ k. ⊎_elim (λ a. later (occurs_left x (child ∷ []) hs a)) (λ b. of_child x u s.out (subst (λ (z : List Node). Occurs x z) (sym (trees-forest kids)) b)) (out_set x (children t) p t s.tree fits.1 k))
     (λ h. later (occurs_right x (child ∷ []) hs h)) r)
     (head_or_child x t hs o)
 
-kept_backs : (x : Node) → x.0.kind ≡ External → (cs : List (ℕ × Change)) (s : Site) → Leads s.tree s.path → FitEach cs s → Occurs x (s.tree ∷ s.holds) → Occurs x ((edits cs s).tree ∷ (edits cs s).holds)
-kept_backs x out [] s leads fits o = o
-kept_backs x out (c ∷ cs) s leads fits o =
-    kept_backs x out cs (edit c.1 c.0 s.tree s.path s.holds) (leads_edit c.1 c.0 s.tree s.path s.holds leads fits.0) fits.1 (kept_back x out c.1 c.0 s.tree s.path s.holds leads fits.0 o)
+kept_backs : (x : Node) → x.0.kind ≡ External → (cs : List (ℕ × Change)) (s : Site) → FitEach cs s → Occurs x (s.tree ∷ s.out) → Occurs x ((edits cs s).tree ∷ (edits cs s).out)
+kept_backs x is [] s fits o = o
+kept_backs x is (c ∷ cs) s fits o =
+    kept_backs x is cs (change_at c.1 c.0 s) fits.1
+    (kept_back x is (edit_of c.1 s.out) c.0 s.tree s.path (unpulled (numbers_in c.1) s.out) fits.0.1 ((before_change c.1 s c.0 fits.0).to x o))
 
 -- ---- from the holds of a token
 turned : (x t : Node) (hs : List Node) → Occurs x (hs ++ t ∷ []) → Occurs x (t ∷ hs)
@@ -190,8 +187,8 @@ module _ (root : Node) (path : List ℕ) (cs : List (ℕ × Change)) (v : View) 
       → (x : Node) → Occurs x (marking root path cs v).holds → Q x × (length (children x) ≤ 6)
   unfolding start
   known Q close all narrow x o =
-      kept_edits Q close cs start can.leads can.fits (λ y i. let j = before y i in (all y j, narrow y j)) x
-      (turned x (edits cs start).tree (edits cs start).holds o)
+      kept_edits Q close cs start can.fits (λ y i. let j = before y i in (all y j, narrow y j)) x
+      (turned x (edits cs start).tree (edits cs start).out o)
 
   pub narrow_marked : Narrow v.holds → Narrow (marking root path cs v).holds
   narrow_marked narrow x o = (known (λ y. Unit {0}) (λ t u q e k. tt) (λ y i. tt) narrow x o).1
@@ -201,7 +198,7 @@ module _ (root : Node) (path : List ℕ) (cs : List (ℕ × Change)) (v : View) 
   keeps_nodes narrow = record {
     numbers = λ x o. (known (λ y. (z : Node) × Occurs z v.holds × (number z ≡ number y)) (λ t u q e k. (q.0, q.1, q.2 ∙ sym e)) (λ y i. (y, i, refl)) narrow x o).0;
     externals = λ x is o. (known (λ y. y.0.kind ≡ External → Occurs y v.holds) (λ t u q e k. λ f. absurd (k f)) (λ y i. λ f. i) narrow x o).0 is;
-    back = λ x is o. turned_back x (edits cs start).tree (edits cs start).holds (kept_backs x is cs start can.leads can.fits ((shuffled_without (number root) v.holds root only).to x o));
+    back = λ x is o. turned_back x (edits cs start).tree (edits cs start).out (kept_backs x is cs start can.fits ((shuffled_without (number root) v.holds root only).to x o));
   }
 
 -- ---- the step

@@ -6,18 +6,14 @@ use Rattle.node_forest.specs.declared.kind.Kind.TheVariants.{External, Branch}
 use Rattle.node_forest.specs.Forest.{children}
 use Rattle.node_forest.specs.Label.{Node, number}
 use Rattle.node_forest.specs.Members.{In, Occurs}
-use Rattle.node_forest.specs.Paths.{child_of, NeverDeeper}
-use Rattle.count_core.specs.Marks.{Change, site, FitEach, numbers_on, edited_holds}
+use Rattle.node_forest.specs.Paths.{Leads, NeverDeeper, numbers_on}
+use Rattle.node_forest.specs.Changes.{site}
+use Rattle.count_core.specs.Marks.{Change, FitEach, edited_holds}
 use Rattle.count_core.specs.Views.{without}
 use Rattle.pool_rule.specs.Views.{View, with_holds}
 use Rattle.pool_rule.specs.Rules.{Among}
 use Rattle.pool_rule.specs.Plays.{Told}
 use Rattle.pool_rule.specs.Pools.{Member}
-
--- the places lead down from the node, over Branches
-abbrev pub Leads : Node → List ℕ → Type 0
-Leads t [] = Unit {0}
-Leads t (p ∷ ps) = (t.0.kind ≡ Branch) × (p < length (children t)) × Leads (child_of t p) ps
 
 -- after the changes: the edges that came are no direct holds any more, those that went are, and the root stands last
 abbrev pub marking : Node → List ℕ → List (ℕ × Change) → View → View

@@ -10,6 +10,7 @@ mod tests;
 
 pub use edge_marks::{
     edge_changes_are_marks, edge_changes_keep_the_rule, edge_changes_trade_holds,
+    held_edges_may_come,
 };
 pub use laws::{
     held_numbers_are_in_use, idle_pools_are_empty, numbers_in_use_are_held, passes_keep_the_rule,

@@ -1,6 +1,7 @@
 //! The laws at a type of slots.
 use crate::edge_marks::{
     edge_changes_are_marks, edge_changes_keep_the_rule, edge_changes_trade_holds,
+    held_edges_may_come,
 };
 use crate::laws::{
     held_numbers_are_in_use, idle_pools_are_empty, numbers_in_use_are_held, passes_keep_the_rule,
@@ -24,6 +25,7 @@ fn laws_hold_of_slots_of_a_type(_rt: HostRuntime) {
     weights_tell_holds();
     edge_changes_are_marks();
     edge_changes_trade_holds();
+    held_edges_may_come();
     edge_changes_keep_the_rule::<Option<u64>>();
     marks_keep_the_rule::<Option<u64>>();
     marks_are_the_count_rules::<Option<u64>>();

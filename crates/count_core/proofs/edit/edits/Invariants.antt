@@ -1,6 +1,7 @@
 -- What the loop of `edits` keeps, or what grows less in its recursion.
 use Rattle.std.proofs.Common.{◌≡◌, drop}
-use Rattle.count_core.specs.Marks.{FitEach, edits, site}
+use Rattle.node_forest.specs.Changes.{site}
+use Rattle.count_core.specs.Marks.{FitEach, edits}
 use Rattle.count_core.specs.Terms.{changes_of}
 use Rattle.count_core.proofs.edit.edits.Given as goal
 

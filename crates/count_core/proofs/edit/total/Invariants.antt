@@ -1,6 +1,6 @@
 -- What the loop of `total` keeps, or what grows less in its recursion.
 use Rattle.std.proofs.Common.{◌≡◌, ◌+◌, ◌^◌, ◌<◌, drop}
-use Rattle.count_core.specs.Marks.{total}
+use Rattle.node_forest.specs.Changes.{total}
 use Rattle.count_core.proofs.edit.total.Given as goal
 
 abbrev pub invariant-loop-tree : goal.invariant-loop-tree

@@ -3,9 +3,10 @@ use Rattle.std.proofs.Common.{◌≡◌, ◌∙◌, ◌+◌, ◌^◌, ◌<◌, �
 use Rattle.node_forest.specs.Label.{Node}
 use Rattle.node_edges.specs.declared.change.Change.{Change}
 use Rattle.node_forest.specs.Paths.{NeverDeeper}
-use Rattle.node_edges.specs.Changes.{Exchange, Site, site, edits, FitEach}
+use Rattle.node_forest.specs.Changes.{Exchange, Site, site, total}
+use Rattle.node_edges.specs.Changes.{edits, FitEach}
 use Rattle.node_edges.specs.Levels.{exchange_of, exchanges_in, all_bytes, all_room, FitAllBytes, all_after, all_out, AreAt, AreDeep, CanExchange, lowered, most_out}
-use Rattle.node_edges.proofs.EditLaws.{flat_at, branch_at, total_of, never-take}
+use Rattle.node_edges.proofs.EditLaws.{flat_at, branch_at, never-take}
 use Rattle.node_edges.proofs.LevelLaws.{flat-level_fits, flat-level, branch-few, own-level, has-path, within, child-fits, below-level, most-parts, fits-kinds, none-there, some-there}
 use Rattle.node_edges.proofs.edit.+edit_below.Goals as goal
 
@@ -69,7 +70,7 @@ total-edge-inside-requires t c =
     let level = own-level cs c.args.depth c.edge.inside.number c.edge.inside.length c.in-Branch.height es c.edge.inside.body.value c.args.edge.now c.args.path.now c.args.out.now.items
     is view c.edge.invariant c.requires.fit xs all here in
     let made : c.exchange_all.new.edges.items ≡ all_after xs es.items = c.exchange_all.ensures.edges ∙ ap (all_after xs) c.reserve-in-Branch.ensures.items in
-    let sum : total_of c.deref.result.now ≡ total_of (all_after xs es.items) = ap total_of (c.deref.ensures.value ∙ made) in
+    let sum : total c.deref.result.now ≡ total (all_after xs es.items) = ap total (c.deref.ensures.value ∙ made) in
     let short = level.made.short in
     omega (arith, sum, short)
 
@@ -87,8 +88,8 @@ invariant_of-edge-then-is_empty-2 t c =
     let level = own-level cs c.args.depth c.edge.inside.number c.edge.inside.length c.in-Branch.height es c.edge.inside.body.value c.args.edge.now c.args.path.now c.args.out.now.items
     is view c.edge.invariant c.requires.fit xs all here in
     let made : c.exchange_all.new.edges.items ≡ all_after xs es.items = c.exchange_all.ensures.edges ∙ ap (all_after xs) c.reserve-in-Branch.ensures.items in
-    let sum : c.total-edge-inside.result ≡ total_of (all_after xs es.items) = c.total-edge-inside.ensures ∙ ap total_of (c.deref.ensures.value ∙ made) in
-    let long : c.total-edge-inside.result ≡ total_of c.exchange_all.new.edges.items = sum ∙ ap total_of (sym made) in
+    let sum : c.total-edge-inside.result ≡ total (all_after xs es.items) = c.total-edge-inside.ensures ∙ ap total (c.deref.ensures.value ∙ made) in
+    let long : c.total-edge-inside.result ≡ total c.exchange_all.new.edges.items = sum ∙ ap total (sym made) in
     let count : length c.exchange_all.new.edges.items ≡ length (all_after xs es.items) = ap (λ (z : List Node). length z) made in
     let short = level.made.short in
     let some = level.made.some in
@@ -112,7 +113,7 @@ returns-then-is_empty-2 t c =
     let level = own-level cs c.args.depth c.edge.inside.number c.edge.inside.length c.in-Branch.height es c.edge.inside.body.value c.args.edge.now c.args.path.now c.args.out.now.items
     is view c.edge.invariant c.requires.fit xs all here in
     let made : c.exchange_all.new.edges.items ≡ all_after xs es.items = c.exchange_all.ensures.edges ∙ ap (all_after xs) c.reserve-in-Branch.ensures.items in
-    let sum : c.total-edge-inside.result ≡ total_of (all_after xs es.items) = c.total-edge-inside.ensures ∙ ap total_of (c.deref.ensures.value ∙ made) in
+    let sum : c.total-edge-inside.result ≡ total (all_after xs es.items) = c.total-edge-inside.ensures ∙ ap total (c.deref.ensures.value ∙ made) in
     record {
       edited = (λ i. branch_at c.edge.inside.number (sum i) c.in-Branch.height (made i)) ∙ level.made.tree;
       removed = c.exchange_all.ensures.out ∙ (ap (λ (z : List Node). all_out xs z c.args.out.now.items) c.reserve-in-Branch.ensures.items ∙ level.made.out);
@@ -237,7 +238,7 @@ total-edge-inside-requires-in-Branch t c =
     let kids : List Node = set es.items p c.edit_below.new.edge in
     let had : set c.reserve-in-Branch.new.self.items p c.edit_below.new.edge ≡ kids = ap (λ (z : List Node). set z p c.edit_below.new.edge) c.reserve-in-Branch.ensures.items in
     let made : c.exchange_all-in-Branch.new.edges.items ≡ all_after xs kids = c.exchange_all-in-Branch.ensures.edges ∙ ap (all_after xs) had in
-    let sum : total_of c.deref-in-Branch.result.now ≡ total_of (all_after xs kids) = ap total_of (c.deref-in-Branch.ensures.value ∙ made) in
+    let sum : total c.deref-in-Branch.result.now ≡ total (all_after xs kids) = ap total (c.deref-in-Branch.ensures.value ∙ made) in
     let short = level.made.short in
     omega (arith, sum, short)
 
@@ -264,8 +265,8 @@ invariant_of-edge-in-Branch t c =
     let kids : List Node = set es.items p c.edit_below.new.edge in
     let had : set c.reserve-in-Branch.new.self.items p c.edit_below.new.edge ≡ kids = ap (λ (z : List Node). set z p c.edit_below.new.edge) c.reserve-in-Branch.ensures.items in
     let made : c.exchange_all-in-Branch.new.edges.items ≡ all_after xs kids = c.exchange_all-in-Branch.ensures.edges ∙ ap (all_after xs) had in
-    let sum : c.total-edge-inside-in-Branch.result ≡ total_of (all_after xs kids) = c.total-edge-inside-in-Branch.ensures ∙ ap total_of (c.deref-in-Branch.ensures.value ∙ made) in
-    let long : c.total-edge-inside-in-Branch.result ≡ total_of c.exchange_all-in-Branch.new.edges.items = sum ∙ ap total_of (sym made) in
+    let sum : c.total-edge-inside-in-Branch.result ≡ total (all_after xs kids) = c.total-edge-inside-in-Branch.ensures ∙ ap total (c.deref-in-Branch.ensures.value ∙ made) in
+    let long : c.total-edge-inside-in-Branch.result ≡ total c.exchange_all-in-Branch.new.edges.items = sum ∙ ap total (sym made) in
     let count : length c.exchange_all-in-Branch.new.edges.items ≡ length (all_after xs kids) = ap (λ (z : List Node). length z) made in
     let short = level.made.short in
     let least = level.made.some in
@@ -301,7 +302,7 @@ returns-in-Branch t c =
     let most = ap most_out front in
     let grown = c.in_ok-edit_below.ensures.grown in
     let made : c.exchange_all-in-Branch.new.edges.items ≡ all_after xs kids = c.exchange_all-in-Branch.ensures.edges ∙ ap (all_after xs) had in
-    let sum : c.total-edge-inside-in-Branch.result ≡ total_of (all_after xs kids) = c.total-edge-inside-in-Branch.ensures ∙ ap total_of (c.deref-in-Branch.ensures.value ∙ made) in
+    let sum : c.total-edge-inside-in-Branch.result ≡ total (all_after xs kids) = c.total-edge-inside-in-Branch.ensures ∙ ap total (c.deref-in-Branch.ensures.value ∙ made) in
     record {
       edited = (λ i. branch_at c.edge.inside.number (sum i) c.in-Branch.height (made i)) ∙ level.made.tree;
       removed = c.exchange_all-in-Branch.ensures.out ∙ (ap (λ (z : List Node). all_out xs z c.edit_below.new.out.items) had ∙ level.made.out);

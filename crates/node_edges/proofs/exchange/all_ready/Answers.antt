@@ -1,7 +1,7 @@
 -- The facts of `all_ready` that the check leaves to be shown.
 use Rattle.std.proofs.Common.{◌∙◌, [], ◌∷◌, List, map, reverse, ap}
 use Rattle.std.proofs.lemmas.List.{map-append, reverse-reverse, take_all}
-use Rattle.node_edges.specs.Changes.{Exchange}
+use Rattle.node_forest.specs.Changes.{Exchange}
 use Rattle.node_edges.specs.Levels.{exchange_of, exchanges_in}
 use Rattle.node_edges.proofs.ExchangeLaws.{exchanges-more, map-reverse}
 use Rattle.node_edges.proofs.exchange.all_ready.Goals as goal

@@ -3,4 +3,4 @@ use Rattle.pool_rule.proofs.EdgeMarks.{mark-trades}
 use Rattle.pool_rule.proofs.edge_marks.edge_changes_trade_holds.Goals as goal
 
 pub returns : goal.returns
-returns c = mark-trades
+returns c = λ root path cs v is. mark-trades root path cs v is.0 is.1

@@ -4,7 +4,8 @@ use Rattle.std.specs.Prelude.{Option, Some}
 use Rattle.node_forest.specs.Label.{Node}
 use Rattle.node_forest.specs.Counts.{first}
 use Rattle.count_core.specs.Views.{without}
-use Rattle.count_core.specs.Marks.{Site, site, LonePath, FitEach, FitsRoot, edits, holds_of, edited_holds}
+use Rattle.node_forest.specs.Changes.{Site, site}
+use Rattle.count_core.specs.Marks.{LonePath, FitEach, FitsRoot, edits, holds_of, edited_holds}
 use Rattle.count_core.specs.Terms.{changes_of}
 use Rattle.count_core.proofs.Lists.{default_same}
 use Rattle.count_core.proofs.world.World.mark.Goals as goal

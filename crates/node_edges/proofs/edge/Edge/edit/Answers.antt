@@ -1,6 +1,6 @@
 -- The facts of `edit` that the check leaves to be shown.
 use Rattle.std.proofs.Common.{◌∙◌, ap}
-use Rattle.node_edges.specs.Changes.{Site}
+use Rattle.node_forest.specs.Changes.{Site}
 use Rattle.node_edges.proofs.EditLaws.{deep-zero, edits-root, fits-root}
 use Rattle.node_edges.proofs.edge.Edge.edit.Goals as goal
 

@@ -1,11 +1,12 @@
 -- What the proof of `Pool::mark` needs beyond the search.
 use Rattle.std.proofs.Common.{[], ap, ◌∙◌}
 use Rattle.std.proofs.lemmas.Result.{on_ok_weaker}
-use Rattle.count_core.specs.Marks.{numbers_on}
-use Rattle.node_edges.specs.Changes.{site}
+use Rattle.node_forest.specs.Paths.{numbers_on}
+use Rattle.node_forest.specs.Changes.{site}
+use Rattle.node_edges.proofs.EditLaws.{edits-numbers}
 use Rattle.node_forest.specs.Label.{Node}
 use Rattle.pool_rule.specs.EdgeMarks.{changed_root}
-use Rattle.node_pool.proofs.Marking.{on-both, edits-numbers, lone-again}
+use Rattle.node_pool.proofs.Marking.{on-both, lone-again}
 use Rattle.node_pool.proofs.pool.Pool.mark.Goals as goal
 
 pub returns-clause-numbers : goal.returns-clause-numbers

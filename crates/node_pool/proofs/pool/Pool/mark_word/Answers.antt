@@ -1,6 +1,6 @@
 -- What the proof of `Pool::mark_word` needs beyond the search.
 use Rattle.std.proofs.Common.{[], refl, sym, ◌∙◌, arith}
-use Rattle.node_edges.specs.Changes.{site}
+use Rattle.node_forest.specs.Changes.{site}
 use Rattle.pool_rule.specs.EdgeMarks.{core_changes}
 use Rattle.pool_rule.specs.Marks.{marking}
 use Rattle.node_pool.proofs.Marking.{steady-marking, mark_at, low_root}
