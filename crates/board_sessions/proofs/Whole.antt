@@ -1,5 +1,6 @@
 -- From the sessions by themselves to the plain run.
 use Rattle.std.proofs.Common.{◌≡◌, ◌⊎◌, ℕ, zero, suc, ◌≤◌, ◌<◌, List, [], ◌∷◌, ◌++◌, Bool, true, false, length, map, get_or, sym, refl, ap, ◌∙◌, subst, arith, Option, Some, None}
+use Rattle.std.proofs.lemmas.List.{length-map}
 use Rattle.std.specs.Option.{option_map}
 use mathlib.Core.Logic.{dite}
 use native.Mathlib.Decide.{dec_lt}
@@ -38,10 +39,6 @@ pub get_mapped : {A B : Type 0} (f : A → B) (xs : List A) (p : ℕ) (d : A) �
 get_mapped f [] p d = refl
 get_mapped f (x ∷ xs) zero d = refl
 get_mapped f (x ∷ xs) (suc p) d = get_mapped f xs p d
-
-pub length_mapped : {A B : Type 0} (f : A → B) (xs : List A) → length (map f xs) ≡ length xs
-length_mapped f [] = refl
-length_mapped f (x ∷ xs) = ap suc (length_mapped f xs)
 
 same_lengths : {A B : Type 0} (xs : List (List A)) (ys : List (List B)) → length xs ≡ length ys → ((p : ℕ) → p < length ys → length (get_or xs p []) ≡ length (get_or ys p [])) → map length xs ≡ map length ys
 same_lengths [] [] e each = refl
@@ -98,4 +95,4 @@ module _ (sessions : List Session) (books : List Book) (joined : List (ℕ × Li
 
     pub whole : IsPlainRun sessions books history
     whole = subst (λ z. IsPlainRun sessions books z) (entries-mapped h.0 ∙ sym h.2)
-        (plain_run-alone sessions books log (same_lengths (replies_of books) (commands_of sessions) (length_mapped (λ book. book.replies) books ∙ (same ∙ sym (length_mapped (λ session. session.commands) sessions))) (λ p l. answered_at p (let m = length_mapped (λ (session : Session). session.commands) sessions in omega arith))) legal left)
+        (plain_run-alone sessions books log (same_lengths (replies_of books) (commands_of sessions) (length-map books (λ book. book.replies) ∙ (same ∙ sym (length-map sessions (λ session. session.commands)))) (λ p l. answered_at p (let m = length-map sessions (λ (session : Session). session.commands) in omega arith))) legal left)

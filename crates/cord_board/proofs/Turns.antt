@@ -1,5 +1,6 @@
 -- What an action finds at its turn, what it owes when it leaves, and what leaving tells.
 use Rattle.std.proofs.Common.{◌≡◌, ℕ, zero, suc, ◌+◌, ◌-◌, ◌^◌, ◌<◌, ◌≤◌, List, [], ◌∷◌, ◌++◌, map, length, set, sym, refl, ap, ◌∙◌, subst, length-append, ⊎_elim, inl, inr, arith, Option, Some, None, Result, Ok, Err}
+use Rattle.std.proofs.lemmas.List.{length-map}
 use Rattle.std.specs.Prelude.{slice_get, slice_set, vec_len, vec_capacity, MatchResult}
 use mathlib.Core.Option.{some, some-injective, some-ne-none}
 use lib.ListN.{get_elem?}
@@ -18,10 +19,6 @@ use Rattle.cord_board.specs.Log.{cells_in, emptied, Acts, Clears}
 use Rattle.cord_board.specs.Rule.{value_of, all_left, Fits, Stands, Acted, Cleared, Leaves, IsLog, CellHeld}
 use Rattle.cord_board.specs.Views.{has, entries_left, session_of, mine_of, gave_of, joined_of, clearings_of, cleared_of, IsSession, IsRoot, IsLast, CanAct, next_place, Did, gathered}
 use Rattle.cord_board.specs.Voices.{left_among, all_left_set, speaks_in}
-
-length_mapped : {A B : Type 0} (f : A → B) (xs : List A) → length (map f xs) ≡ length xs
-length_mapped f [] = refl
-length_mapped f (x ∷ xs) = ap suc (length_mapped f xs)
 
 tail : {A : Type 0} → List A → List A
 tail [] = []
@@ -115,7 +112,7 @@ module _ {C : Type 0} where
         let s = a.3 in
         let is : s.spot ≡ home x = one_spot l s.spot (home x) (ap (λ z. get_elem? z l) (sym s.one) ∙ a.4) in
         let at = ap value_of is in
-        let history = ap (λ z. length z.history.items) (sym at) ∙ (ap length s.replays.history ∙ length_mapped (entry_of size) s.log) in
+        let history = ap (λ z. length z.history.items) (sym at) ∙ (ap length s.replays.history ∙ length-map s.log (entry_of size)) in
         let room : all_left a.1 + length s.log ≤ vec_capacity x.history = subst (λ (z : Cells C). all_left a.1 + length s.log ≤ vec_capacity z.history) at s.room in
         let mine = left_among a.1 a.2 (Some v) a.5 in
         let whole = x.history.ok in

@@ -1,5 +1,6 @@
 -- Which lists of actions are legal, and what a registry is that such a list has made.
-use Rattle.std.specs.Prelude.{◌≡◌, ℕ, ◌+◌, ◌-◌, ◌^◌, ◌<◌, ◌≤◌, ◌==◌, ◌⊎◌, cond, true, List, [], ◌∷◌, ◌++◌, length, Option, Some, None, option_map, option_and_then, IsSome, slice_index_or}
+use Rattle.std.specs.Prelude.{◌≡◌, ℕ, ◌+◌, ◌-◌, ◌^◌, ◌<◌, ◌≤◌, ◌==◌, ◌⊎◌, cond, true, List, [], ◌∷◌, ◌++◌, length, Option, Some, None, option_map}
+use Rattle.std.specs.Prelude.{option_and_then, IsSome, slice_index_or}
 use Rattle.cordz_core.specs.declared.slot.Slot.{Slot}
 use Rattle.cordz_core.specs.declared.slot.Entry.{Entry}
 use Rattle.cordz_core.specs.declared.slot.SlotState.{SlotState}
@@ -8,8 +9,10 @@ use Rattle.cordz_core.specs.declared.queue.Waiting.{Waiting}
 use Rattle.cordz_core.specs.declared.queue.Waiting.TheVariants.{Snapshot, Record}
 use Rattle.cordz_core.specs.Queue.{has, kept_behind, without_walker}
 use Rattle.cordz_core.specs.Contents.{Contents, entry_in, birth_of}
-use Rattle.cordz_core.specs.History.{Action, Reserves, Frees, Tracks, Unlinks, Settles, Snaps, Unsnaps, History, Use, Nobody, Holder, Tracked, use_of, stamps_given, stamp_in}
-use Rattle.cordz_core.specs.Times.{RecordTimes, SnapshotTimes, Course, Stays, Left, Done, stays, records, snapshots, record_in, head_at, next_at, deleted_at, IsDeletionPlace, living}
+use Rattle.cordz_core.specs.History.{Action, Reserves, Frees, Tracks, Unlinks, Settles, Snaps, Unsnaps, History, Use, Nobody, Holder, Tracked, use_of}
+use Rattle.cordz_core.specs.History.{stamps_given, stamp_in}
+use Rattle.cordz_core.specs.Times.{RecordTimes, SnapshotTimes, Course, Stays, Left, Done, stays, records, snapshots, record_in, head_at, next_at}
+use Rattle.cordz_core.specs.Times.{deleted_at, IsDeletionPlace, living}
 
 -- where a record's slot stands at a place, by the record's times and the snapshots'
 abbrev pub state_by : List SnapshotTimes → Course → ℕ → SlotState

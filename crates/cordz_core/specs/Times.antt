@@ -1,5 +1,6 @@
 -- The times of records and snapshots, and what walks and deletions mean by them alone.
-use Rattle.std.specs.Prelude.{◌≡◌, ℕ, ◌+◌, ◌<◌, ◌==◌, ◌&&◌, ◌||◌, not, nat_lt, nat_le, min, cond, Bool, true, false, List, [], ◌∷◌, ◌++◌, length, Option, Some, None}
+use Rattle.std.specs.Prelude.{◌≡◌, ℕ, ◌+◌, ◌<◌, ◌==◌, ◌&&◌, ◌||◌, not, nat_lt, nat_le, min, cond, Bool, true, false, List, [], ◌∷◌, ◌++◌, length, Option}
+use Rattle.std.specs.Prelude.{Some, None}
 use Rattle.cordz_core.specs.History.{Reserves, Frees, Tracks, Unlinks, Settles, Snaps, Unsnaps, History}
 
 -- how far a record has come: it is in the list, or left it at a place, or left it and was settled
@@ -43,7 +44,8 @@ unlinked s now (r ∷ rs) = cond ((s == r.slot) && stays r.course) ((record { sl
 -- the leaving record of a slot is settled
 abbrev pub settled : ℕ → ℕ → List RecordTimes → List RecordTimes
 settled s now [] = []
-settled s now (r ∷ rs) = cond ((s == r.slot) && is_leaving r.course) ((record { slot = r.slot; track = r.track; course = settled_course now r.course }) ∷ rs) (r ∷ settled s now rs)
+settled s now (r ∷ rs) =
+    cond ((s == r.slot) && is_leaving r.course) ((record { slot = r.slot; track = r.track; course = settled_course now r.course }) ∷ rs) (r ∷ settled s now rs)
 
 -- the records of a history, newest first
 abbrev pub records : History → List RecordTimes

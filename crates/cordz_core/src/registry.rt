@@ -1,5 +1,6 @@
 //! The registry and its calls.
-ghost use Rattle.std.specs.Prelude.{◌≡◌, ◌≢◌, ◌↔◌, ◌⊎◌, ℕ, ◌+◌, ◌-◌, ◌^◌, ◌<◌, ◌≤◌, [], ◌∷◌, length, IfOk, OnOk, OnErr, IfErr, IsErr, IsSome, IsNone, IsTrue, true, false};
+ghost use Rattle.std.specs.Prelude.{◌≡◌, ◌≢◌, ◌↔◌, ◌⊎◌, ℕ, ◌+◌, ◌-◌, ◌^◌, ◌<◌, ◌≤◌, [], ◌∷◌, length, IfOk, OnOk, OnErr, IfErr, IsErr, IsSome, IsNone};
+ghost use Rattle.std.specs.Prelude.{IsTrue, true, false};
 ghost use Rattle.cordz_core.specs.Contents.{Contents, entry_in, state_of, birth_of};
 ghost use Rattle.cordz_core.specs.History.{History, Reserves, Frees, Tracks, Unlinks, Settles, Snaps, Unsnaps, Tracked, use_of};
 ghost use Rattle.cordz_core.specs.Legal.{Replays, IsDeletionOf, IsRisingFrom, head_after, next_after, settle_places};
@@ -217,7 +218,8 @@ impl Registry {
         ensures ends { Ends self.old self.new walker result.items }
         ensures stamps { self.new.stamps ≡ self.old.stamps }
         ensures history { (h : History) → Replays h self.old → Replays (Unsnaps walker ∷ h) self.new }
-        ensures given { (h : History) → Replays h self.old → (s : ℕ) → ((has s result.items ≡ true) ↔ ((use_of h s ≡ Tracked) × IsDeletionOf (Unsnaps walker ∷ h) s (length (Unsnaps walker ∷ h)))) }
+        ensures given { (h : History) → Replays h self.old → (s : ℕ)
+            → ((has s result.items ≡ true) ↔ ((use_of h s ≡ Tracked) × IsDeletionOf (Unsnaps walker ∷ h) s (length (Unsnaps walker ∷ h)))) }
         ensures order { (h : History) → Replays h self.old → IsRisingFrom 0 (settle_places h result.items) }
     {
         self.clock.ticks += 1;
@@ -243,7 +245,8 @@ impl Registry {
     /// The record behind this one in a walk.
     pub fn next(&self, slot: u16) -> Option<u16>
         requires slot { slot < 256 }
-        requires walked { (state_of self.now slot ≡ SlotState.Linked) ⊎ ((state_of self.now slot ≡ SlotState.Leaving) ⊎ (state_of self.now slot ≡ SlotState.Queued)) }
+        requires walked { (state_of self.now slot ≡ SlotState.Linked)
+            ⊎ ((state_of self.now slot ≡ SlotState.Leaving) ⊎ (state_of self.now slot ≡ SlotState.Queued)) }
         ensures { (h : History) → Replays h self.now → result ≡ next_after h slot }
     {
         match self.entries[slot as usize].next {

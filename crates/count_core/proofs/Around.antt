@@ -8,7 +8,7 @@ use Rattle.node_forest.specs.Members.{In, Occurs}
 use Rattle.node_forest.proofs.Members.{occurs_split, occurs_left, occurs_right}
 use Rattle.node_forest.proofs.Counts.{times_append}
 use Rattle.count_core.specs.Holders.{skip_if}
-use Rattle.count_core.specs.Sound.{Parts}
+use Rattle.count_core.specs.SoundBelow.{Parts}
 use Rattle.count_core.specs.Views.{without, is_among, moving, staying}
 use Rattle.count_core.specs.Steps.{roots}
 use Rattle.count_core.proofs.Parts.{parts_around}

@@ -10,7 +10,7 @@ use Rattle.node_forest.specs.Counts.{is, times, first, edges_in}
 use Rattle.node_forest.proofs.Members.{root_occurs, parent, child_occurs, child_smaller, below_smaller, below_in, nodes_trees, alone_out, alone_in}
 use Rattle.node_forest.proofs.Counts.{is_one, times_some, times_pos, first_cases}
 use Rattle.count_core.specs.Holders.{Agreed, Fitting}
-use Rattle.count_core.specs.Sound.{sum_below, edge, holders_below, Sound, Parts}
+use Rattle.count_core.specs.SoundBelow.{sum_below, edge, holders_below, IsSoundBelow, Parts}
 use Rattle.count_core.proofs.Sums.{sum_same, sum_at, at_le_sum, sum_some}
 use Rattle.count_core.proofs.Agreed.{first_agreed, first_absent, first_same}
 
@@ -39,8 +39,8 @@ edge_parent size n roots h =
     (first_cases s.0 (nodes_of roots))
 
 -- the same nodes occur, and the words follow the direct holds
-pub stays : (size : ℕ) (word word' : ℕ → ℕ) (a b : List Node) → Sound size word a → ((x : Node) → Occurs x b → Occurs x a) → ((x : Node) → Occurs x a → Occurs x b)
-    → ((n : ℕ) → n < size → word' n + times n a ≡ word n + times n b) → Sound size word' b
+pub stays : (size : ℕ) (word word' : ℕ → ℕ) (a b : List Node) → IsSoundBelow size word a → ((x : Node) → Occurs x b → Occurs x a) → ((x : Node) → Occurs x a → Occurs x b)
+    → ((n : ℕ) → n < size → word' n + times n a ≡ word n + times n b) → IsSoundBelow size word' b
 stays size word word' a b s down up counts = record {
   agreed = λ t u p q e. s.agreed t u (down t p) (down u q) e;
   counted = λ n l.
@@ -49,7 +49,7 @@ stays size word word' a b s down up counts = record {
   fitting = λ t p. s.fitting t (down t p);
 }
 
-pub shares : (size : ℕ) (word word' : ℕ → ℕ) (a b : List Node) (t : Node) → Sound size word a → Occurs t a → Parts b (t ∷ []) a → ((n : ℕ) → n < size → word' n ≡ word n + is n t) → Sound size word' b
+pub shares : (size : ℕ) (word word' : ℕ → ℕ) (a b : List Node) (t : Node) → IsSoundBelow size word a → Occurs t a → Parts b (t ∷ []) a → ((n : ℕ) → n < size → word' n ≡ word n + is n t) → IsSoundBelow size word' b
 shares size word word' a b t s occurs parts words =
     stays size word word' a b s
     (λ x h. ⊎_elim (λ l. below_in x t a occurs (alone_out x t l)) (λ r. r) (parts.out x h))
@@ -89,13 +89,13 @@ module _ (size : ℕ) (t : Node) (open_ closed kept : List Node) (o : Parts open
       let p = o.count n in let r = c.count n in omega arith
 
 -- a number whose word is 0 does not occur
-pub unheld : (size : ℕ) (word : ℕ → ℕ) (roots : List Node) (n : ℕ) → Sound size word roots → n < size → word n ≡ 0 → (x : Node) → Occurs x roots → number x ≢ n
+pub unheld : (size : ℕ) (word : ℕ → ℕ) (roots : List Node) (n : ℕ) → IsSoundBelow size word roots → n < size → word n ≡ 0 → (x : Node) → Occurs x roots → number x ≢ n
 unheld size word roots n s l free x h e = let k = has_holder size x roots s.agreed s.fitting h in let w = s.counted n l in
     let same : holders_below size roots (number x) ≡ holders_below size roots n = ap (holders_below size roots) e in omega arith
 
 -- a taken number, which no one held
-pub takes : (size : ℕ) (word word' : ℕ → ℕ) (t : Node) (a b kept : List Node) → Sound size word a → Parts a (children t) kept → Parts b (t ∷ []) kept → number t < size → word (number t) ≡ 0
-    → ((n : ℕ) → n < size → word' n ≡ word n + is n t) → Sound size word' b
+pub takes : (size : ℕ) (word word' : ℕ → ℕ) (t : Node) (a b kept : List Node) → IsSoundBelow size word a → Parts a (children t) kept → Parts b (t ∷ []) kept → number t < size → word (number t) ≡ 0
+    → ((n : ℕ) → n < size → word' n ≡ word n + is n t) → IsSoundBelow size word' b
 takes size word word' t a b kept s o c l free words =
     let absent : (x : Node) → Occurs x a → number x ≢ number t = λ x h e. unheld x h e in
     let agreed : Agreed b = agreed_up size t a b kept o c absent s.agreed in
@@ -110,8 +110,8 @@ takes size word word' t a b kept s o c l free words =
         let same : holders_below size a (number x) ≡ holders_below size a (number t) = ap (holders_below size a) e in omega arith
 
 -- the last leaver of a number gets its children
-pub leaves_last : (size : ℕ) (word word' : ℕ → ℕ) (t : Node) (a b kept : List Node) → Sound size word a → Parts a (t ∷ []) kept → Parts b (children t) kept → word (number t) ≡ 1
-    → ((n : ℕ) → n < size → word' n + is n t ≡ word n) → Sound size word' b
+pub leaves_last : (size : ℕ) (word word' : ℕ → ℕ) (t : Node) (a b kept : List Node) → IsSoundBelow size word a → Parts a (t ∷ []) kept → Parts b (children t) kept → word (number t) ≡ 1
+    → ((n : ℕ) → n < size → word' n + is n t ≡ word n) → IsSoundBelow size word' b
 leaves_last size word word' t a b kept s c o last words =
     record {
       agreed = agreed_down size t b a kept o c absent s.agreed;
@@ -157,7 +157,7 @@ leaves_last size word word' t a b kept s c o last words =
     absent x h = ⊎_elim (child_absent x) (kept_absent x) (o.out x h)
 
 -- one of several holds of a number goes
-pub leaves_shared : (size : ℕ) (word word' : ℕ → ℕ) (t : Node) (a b : List Node) → Sound size word a → Parts a (t ∷ []) b → 2 ≤ word (number t) → ((n : ℕ) → n < size → word' n + is n t ≡ word n) → Sound size word' b
+pub leaves_shared : (size : ℕ) (word word' : ℕ → ℕ) (t : Node) (a b : List Node) → IsSoundBelow size word a → Parts a (t ∷ []) b → 2 ≤ word (number t) → ((n : ℕ) → n < size → word' n + is n t ≡ word n) → IsSoundBelow size word' b
 leaves_shared size word word' t a b s c more words =
     stays size word word' a b s c.right
     (λ x h. ⊎_elim (λ i. below_in x t b still (alone_out x t i)) (λ r. r) (c.out x h))

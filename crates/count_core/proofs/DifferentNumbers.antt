@@ -8,7 +8,7 @@ use Rattle.node_forest.specs.Members.{In}
 use Rattle.node_forest.specs.Counts.{times, first, edges_in}
 use Rattle.node_forest.proofs.Counts.{first_hit, first_miss}
 use Rattle.count_core.specs.Holders.{skip_if, others, firsts, edges_of, holders, Fitting}
-use Rattle.count_core.specs.Sound.{sum_below, holders_below}
+use Rattle.count_core.specs.SoundBelow.{sum_below, holders_below}
 use Rattle.count_core.proofs.Sums.{sum_at}
 
 others_hit : (m : ℕ) (t : Node) (ts : List Node) → number t ≡ m → others m (t ∷ ts) ≡ others m ts

@@ -14,7 +14,7 @@ use Rattle.node_forest.proofs.Members.{root_occurs, occurs_split, occurs_left, o
 use Rattle.node_forest.proofs.Counts.{times_append, is_one, is_none, first_hit, first_miss}
 use Rattle.node_forest.proofs.Shuffles.{Shuffled, shuffled_refl, shuffled_then, shuffled_back, shuffled_along, shuffled_append, shuffled_swap, shuffled_exchange, kid_out, turn}
 use Rattle.node_forest.proofs.Changes.{child_in, edit_number, edit_numbers, edit_leads, edit_loose}
-use Rattle.count_core.specs.Sound.{Sound, Parts}
+use Rattle.count_core.specs.SoundBelow.{IsSoundBelow, Parts}
 use Rattle.count_core.specs.Views.{without}
 use Rattle.count_core.specs.Marks as core
 use Rattle.count_core.specs.Marks.{Change, pulled, unpulled, CanPull, numbers_in, edit_of, change_at, ChangeFits, FitEach, LonePath, edits}
@@ -22,7 +22,7 @@ use Rattle.count_core.proofs.Counting.{stays, unheld}
 use Rattle.count_core.proofs.Marks.{less, less_is, opens, closes}
 use Rattle.count_core.proofs.Places.{without_hit, without_miss}
 
-pub shuffled_sound : (size : ℕ) (word : ℕ → ℕ) (a b : List Node) → Shuffled a b → Sound size word a → Sound size word b
+pub shuffled_sound : (size : ℕ) (word : ℕ → ℕ) (a b : List Node) → Shuffled a b → IsSoundBelow size word a → IsSoundBelow size word b
 shuffled_sound size word a b f s = stays size word word a b s f.from f.to (λ n l. let e = f.count n in omega arith)
 
 -- ---- direct holds that become edges
@@ -56,7 +56,7 @@ shuffled_holds (core.resize long bytes room) hs can = shuffled_refl hs
 shuffled_holds (core.exchange side count ms) hs can = shuffled_pulled ms hs can
 
 -- ---- a node opened, and closed with other edges
-module _ (size : ℕ) (word : ℕ → ℕ) (t : Node) (hs others : List Node) (s : Sound size word (t ∷ (hs ++ others))) (one : word (number t) ≡ 1) where
+module _ (size : ℕ) (word : ℕ → ℕ) (t : Node) (hs others : List Node) (s : IsSoundBelow size word (t ∷ (hs ++ others))) (one : word (number t) ≡ 1) where
   low : number t < size
   low = s.fitting t (root_occurs t (t ∷ (hs ++ others)) (inl refl))
 
@@ -68,7 +68,7 @@ module _ (size : ℕ) (word : ℕ → ℕ) (t : Node) (hs others : List Node) (s
     right = λ x h. occurs_right x (u ∷ []) rest h;
   }
 
-  pub opened : Sound size (less word t) ((hs ++ children t) ++ others)
+  pub opened : IsSoundBelow size (less word t) ((hs ++ children t) ++ others)
   opened = shuffled_sound size (less word t) ((hs ++ others) ++ children t) ((hs ++ children t) ++ others) turn
       (opens size word t (t ∷ (hs ++ others)) (hs ++ others) s (head_parts t (hs ++ others)) one)
     where
@@ -85,7 +85,7 @@ module _ (size : ℕ) (word : ℕ → ℕ) (t : Node) (hs others : List Node) (s
       let z = is_none (number x) t (λ e. apart (sym e)) in
       let l = less_is word t one (number x) in omega arith
 
-  pub closed : (u : Node) (kids holds : List Node) → number u ≡ number t → children u ≡ kids → Sound size (less word t) ((holds ++ kids) ++ others) → Sound size word (u ∷ (holds ++ others))
+  pub closed : (u : Node) (kids holds : List Node) → number u ≡ number t → children u ≡ kids → IsSoundBelow size (less word t) ((holds ++ kids) ++ others) → IsSoundBelow size word (u ∷ (holds ++ others))
   closed u kids holds same is open_ =
       closes size word t u ((holds ++ kids) ++ others) (u ∷ (holds ++ others)) (holds ++ others) open_
       (record {
@@ -107,8 +107,8 @@ lone_here word t [] h = h
 lone_here word t (p ∷ ps) h = h.0
 
 -- an edit whose new edges were direct holds beside those outside
-edit_sound : (size : ℕ) (e : Edit) (d : ℕ) (t : Node) (path : List ℕ) (out others : List Node) (word : ℕ → ℕ) → Sound size word (t ∷ ((new_in e ++ out) ++ others)) → LonePath word t path → FitsAt e d t path
-    → Sound size word ((edit e d t path out).tree ∷ ((edit e d t path out).out ++ others))
+edit_sound : (size : ℕ) (e : Edit) (d : ℕ) (t : Node) (path : List ℕ) (out others : List Node) (word : ℕ → ℕ) → IsSoundBelow size word (t ∷ ((new_in e ++ out) ++ others)) → LonePath word t path → FitsAt e d t path
+    → IsSoundBelow size word ((edit e d t path out).tree ∷ ((edit e d t path out).out ++ others))
 edit_sound size (resize long bytes room) zero t path out others word s lone fits =
     closed size word t out others s (lone_here word t path lone) (edit (resize long bytes room) zero t path out).tree (children t) out refl refl (opened size word t out others s (lone_here word t path lone))
 edit_sound size (exchange x) zero t path out others word s lone fits =
@@ -131,7 +131,7 @@ edit_sound size e (suc d) t (p ∷ ps) out others word s lone fits =
     let open_ = opened size word t hs others s one in
     let inside : Occurs child ((hs ++ kids) ++ others) = occurs_left child (hs ++ kids) others (occurs_right child hs kids (root_occurs child kids (child_in t p lone.2))) in
     let s' = edit e d child ps out in
-    let below : Sound size (less word t) (child ∷ (hs ++ (r.0 ++ others))) = shuffled_sound size (less word t) ((hs ++ kids) ++ others) (child ∷ (hs ++ (r.0 ++ others))) (turn hs kids r.0 others child r.1) open_ in
+    let below : IsSoundBelow size (less word t) (child ∷ (hs ++ (r.0 ++ others))) = shuffled_sound size (less word t) ((hs ++ kids) ++ others) (child ∷ (hs ++ (r.0 ++ others))) (turn hs kids r.0 others child r.1) open_ in
     let deeper = edit_sound size e d child ps out (r.0 ++ others) (less word t) below (lone_below word (less word t) child ps ((hs ++ kids) ++ others) inside (word_below size word t hs others s one) lone.3) fits.2 in
     closed size word t hs others s one (raised t p s').tree (set kids p s'.tree) s'.out refl (trees-forest (set kids p s'.tree))
     (shuffled_sound size (less word t) (s'.tree ∷ (s'.out ++ (r.0 ++ others))) ((s'.out ++ set kids p s'.tree) ++ others)
@@ -163,8 +163,8 @@ change_lone c d s word lone fits =
     lone_from word (change_at c d s).tree (change_at c d s).path (edit_leads e d s.tree s.path rest fits.1 (lone_leads word s.tree s.path lone))
     (subst (λ (ns : List ℕ). AreOnes word ns) (sym (edit_numbers e d s.tree s.path rest fits.1)) (lone_ones word s.tree s.path lone))
 
-change_sound : (size : ℕ) (c : Change) (d : ℕ) (s : Site) (others : List Node) (word : ℕ → ℕ) → Sound size word (s.tree ∷ (s.out ++ others)) → LonePath word s.tree s.path → ChangeFits c d s
-    → Sound size word ((change_at c d s).tree ∷ ((change_at c d s).out ++ others))
+change_sound : (size : ℕ) (c : Change) (d : ℕ) (s : Site) (others : List Node) (word : ℕ → ℕ) → IsSoundBelow size word (s.tree ∷ (s.out ++ others)) → LonePath word s.tree s.path → ChangeFits c d s
+    → IsSoundBelow size word ((change_at c d s).tree ∷ ((change_at c d s).out ++ others))
 change_sound size c d s others word sound lone fits =
     let e = edit_of c s.out in
     let rest = unpulled (numbers_in c) s.out in
@@ -184,8 +184,8 @@ change_loose c d s fits =
     shuffled_then (loose s) (held ++ edges) (loose (change_at c d s)) (shuffled_append s.out held edges edges (shuffled_holds c s.out fits.0) (shuffled_refl edges)) (edit_loose e d s.tree s.path rest fits.1)
 
 -- ---- a list of changes
-pub edits_sound : (size : ℕ) (cs : List (ℕ × Change)) (s : Site) (others : List Node) (word : ℕ → ℕ) → Sound size word (s.tree ∷ (s.out ++ others)) → LonePath word s.tree s.path → FitEach cs s
-    → Sound size word ((edits cs s).tree ∷ ((edits cs s).out ++ others))
+pub edits_sound : (size : ℕ) (cs : List (ℕ × Change)) (s : Site) (others : List Node) (word : ℕ → ℕ) → IsSoundBelow size word (s.tree ∷ (s.out ++ others)) → LonePath word s.tree s.path → FitEach cs s
+    → IsSoundBelow size word ((edits cs s).tree ∷ ((edits cs s).out ++ others))
 edits_sound size [] s others word sound lone fits = sound
 edits_sound size (c ∷ cs) s others word sound lone fits =
     edits_sound size cs (change_at c.1 c.0 s) others word (change_sound size c.1 c.0 s others word sound lone fits.0) (change_lone c.1 c.0 s word lone fits.0) fits.1

@@ -16,3 +16,4 @@ pub mod Search
 pub mod Runs
 pub mod LonePaths
 pub mod Whole
+pub mod Bare

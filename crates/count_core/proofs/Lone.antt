@@ -8,7 +8,7 @@ use Rattle.node_forest.specs.Members.{In, Occurs}
 use Rattle.node_forest.specs.Counts.{times, edges_in}
 use Rattle.node_forest.proofs.Members.{parent, root_occurs}
 use Rattle.node_forest.proofs.Counts.{times_pos}
-use Rattle.count_core.specs.Sound.{sum_below, edge, Sound, Parts}
+use Rattle.count_core.specs.SoundBelow.{sum_below, edge, IsSoundBelow, Parts}
 use Rattle.count_core.proofs.Sums.{at_le_sum}
 use Rattle.count_core.proofs.Agreed.{first_agreed}
 
@@ -21,7 +21,7 @@ two_le_sum (suc k) i j f a b ne =
     (λ e. let x : f k ≡ f j = ap f e in let le = at_le_sum k i f (let n' : k ≢ i = n in omega arith) in omega arith)
     (λ m. let n' : k ≢ i = n in let m' : k ≢ j = m in let r = two_le_sum k i j f (omega arith) (omega arith) ne in omega arith))
 
-module _ (size : ℕ) (word : ℕ → ℕ) (all mine others : List Node) (s : Sound size word all) (p : Parts all mine others) where
+module _ (size : ℕ) (word : ℕ → ℕ) (all mine others : List Node) (s : IsSoundBelow size word all) (p : Parts all mine others) where
   edge_pos : (q c : Node) → Occurs q all → In c (children q) → (n : ℕ) → number c ≡ n → 1 ≤ edge all n (number q)
   edge_pos q c o i n e = let f : edge all n (number q) ≡ times n (children q) = ap (edges_in n) (first_agreed (number q) q all s.agreed o refl) in
       let t = times_pos n c (children q) i e in omega arith

@@ -8,7 +8,7 @@ use Rattle.node_forest.specs.Forest.{children}
 use Rattle.node_forest.specs.Label.{Node, number}
 use Rattle.node_forest.specs.Members.{In, Occurs}
 use Rattle.node_forest.proofs.Members.{root_occurs, child_occurs}
-use Rattle.count_core.specs.Sound.{Sound, Parts}
+use Rattle.count_core.specs.SoundBelow.{IsSoundBelow, Parts}
 use Rattle.count_core.specs.Steps.{State, word_at, holds_at, roots}
 use Rattle.count_core.specs.Worlds.{IsSound}
 use Rattle.count_core.specs.Paths.{path_from, IsLone}
@@ -37,7 +37,7 @@ other_occurs views v other y ne o =
     past (x ∷ xs) zero out = absurd (out (omega arith))
     past (x ∷ xs) (suc i) out = past xs i (λ l. out (omega arith))
 
-module _ (size : ℕ) (word : ℕ → ℕ) (all mine others : List Node) (s : Sound size word all) (p : Parts all mine others) where
+module _ (size : ℕ) (word : ℕ → ℕ) (all mine others : List Node) (s : IsSoundBelow size word all) (p : Parts all mine others) where
   head_in : (c : Node) (ks : List ℕ) → In c (path_from (Some c) ks)
   head_in c [] = inl refl
   head_in c (k ∷ ks) = inl refl

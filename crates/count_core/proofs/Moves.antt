@@ -9,7 +9,7 @@ use Rattle.node_forest.specs.Members.{In, Occurs}
 use Rattle.node_forest.specs.Counts.{is, times, first}
 use Rattle.node_forest.proofs.Members.{root_occurs}
 use Rattle.node_forest.proofs.Counts.{is_one, is_none, times_pos, times_some, first_cases, first_found}
-use Rattle.count_core.specs.Sound.{Sound, Parts}
+use Rattle.count_core.specs.SoundBelow.{IsSoundBelow, Parts}
 use Rattle.node_forest.specs.Changes.{site}
 use Rattle.count_core.specs.Marks.{Change, FitsRoot, edited_holds, holds_of, edits}
 use Rattle.count_core.specs.Views.{without, without_all, AreHeld, edges_of_one, passed_on, moving, staying}
@@ -46,14 +46,14 @@ word_bound ws n m l low all j =
     (λ ne. let ne' : j ≢ n = ne in let a = get_or-set_other ws n j m 0 ne' in let b = all j in omega arith)
 
 -- ---- from a world to the form of the proofs, and back
-pub sound_of : (w : State) → IsSound w → Sound (length w.words) (word_at w) (roots w.views)
+pub sound_of : (w : State) → IsSound w → IsSoundBelow (length w.words) (word_at w) (roots w.views)
 sound_of w s = record {
   agreed = s.agreed;
   counted = λ n l. s.counted n l ∙ sym (holders_below-holders (length w.words) (roots w.views) n s.fitting);
   fitting = s.fitting;
 }
 
-pub world_of : (x : State) (k : ℕ) → length x.words ≡ k → Sound k (word_at x) (roots x.views) → ((n : ℕ) → word_at x n ≤ 2 ^ 32) → x.live ≤ 2 ^ 32 → IsSound x
+pub world_of : (x : State) (k : ℕ) → length x.words ≡ k → IsSoundBelow k (word_at x) (roots x.views) → ((n : ℕ) → word_at x n ≤ 2 ^ 32) → x.live ≤ 2 ^ 32 → IsSound x
 world_of x k e s words live = record {
   agreed = s.agreed;
   counted = λ n l. s.counted n (omega arith) ∙ holders_below-holders k (roots x.views) n s.fitting;
@@ -99,7 +99,7 @@ parts_held (c ∷ cs) hs held same =
         }
 
 -- the same holds in parts, in another order
-pub same_parts : (size : ℕ) (word : ℕ → ℕ) (a b c k : List Node) → Sound size word a → Parts a c k → Parts b c k → Sound size word b
+pub same_parts : (size : ℕ) (word : ℕ → ℕ) (a b c k : List Node) → IsSoundBelow size word a → Parts a c k → Parts b c k → IsSoundBelow size word b
 same_parts size word a b c k s p q =
     stays size word word a b s
     (λ x h. ⊎_elim (λ l. p.left x l) (λ r. p.right x r) (q.out x h))
@@ -182,7 +182,7 @@ module _ (w : State) (s : IsSound w) where
       let none : [] ≡ passed_on (word_at w n) (first n hs) = (λ i. if sym (ne_eqb (word_at w n) 1 many) i then edges_of_one (first n hs) else []) in
       subst IsSound (moved [] none)
       (world_of (changed w (number t) m v (kept ++ [])) k (length-set w.words (number t) m)
-      (subst (λ (z : List Node). Sound k word' (roots (set w.views v z))) (sym (append-nil kept))
+      (subst (λ (z : List Node). IsSoundBelow k word' (roots (set w.views v z))) (sym (append-nil kept))
       (leaves_shared k (word_at w) word' t (roots w.views) (roots (set w.views v kept)) sound shrunk (omega arith) words))
       bound s.live))
 
@@ -198,7 +198,7 @@ module _ (w : State) (s : IsSound w) where
           let rest = a.before ++ a.after in
           let end = edits changes (site t path kept) in
           let out : Shuffled hs (t ∷ kept) = shuffled_without n hs t e in
-          let first_ : Sound (length w.words) (word_at w) (t ∷ (kept ++ rest)) = shuffled_sound (length w.words) (word_at w) (roots w.views) (t ∷ (kept ++ rest))
+          let first_ : IsSoundBelow (length w.words) (word_at w) (t ∷ (kept ++ rest)) = shuffled_sound (length w.words) (word_at w) (roots w.views) (t ∷ (kept ++ rest))
           (shuffled_then (roots w.views) (hs ++ rest) (t ∷ (kept ++ rest)) (subst (λ (z : List Node). Shuffled z (hs ++ rest)) (sym a.now) (shuffled_between a.before hs a.after))
           (shuffled_append hs (t ∷ kept) rest rest out (shuffled_refl rest))) (sound_of w s) in
           let last = edits_sound (length w.words) changes (site t path kept) rest (word_at w) first_ fits.0 fits.1 in

@@ -3,7 +3,7 @@ use Rattle.std.proofs.Common.{◌≡◌, inl, inr, ⊎_elim, List, ◌++◌, sym
 use Rattle.node_forest.specs.Label.{Node}
 use Rattle.node_forest.proofs.Members.{occurs_split, occurs_left, occurs_right}
 use Rattle.node_forest.proofs.Counts.{times_append}
-use Rattle.count_core.specs.Sound.{Parts}
+use Rattle.count_core.specs.SoundBelow.{Parts}
 
 pub parts_last : (k c : List Node) → Parts (k ++ c) c k
 parts_last k c = record {

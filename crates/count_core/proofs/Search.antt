@@ -10,7 +10,7 @@ use Rattle.node_forest.proofs.Members.{nodes_append}
 use Rattle.node_forest.proofs.Counts.{times_append, first_cases, first_miss, first-append_none, first-append_some}
 use Rattle.count_core.specs.Holders.{holders, Fitting}
 use Rattle.count_core.specs.Search.{IsNext, lesser}
-use Rattle.count_core.specs.Sound.{sum_below, edge}
+use Rattle.count_core.specs.SoundBelow.{sum_below, edge}
 use Rattle.count_core.specs.Steps.{roots}
 use Rattle.count_core.proofs.DifferentNumbers.{holders_below-holders}
 use Rattle.count_core.proofs.Lists.{drop_item, take_item}

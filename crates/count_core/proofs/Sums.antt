@@ -2,7 +2,7 @@
 use Rattle.std.proofs.Common.{◌≡◌, ℕ, zero, suc, ◌+◌, ◌*◌, ◌<◌, ◌≤◌, ◌≢◌, refl, ap, arith}
 use mathlib.Core.Logic.{dite}
 use native.Mathlib.Decide.{ℕ_discrete, dec_le}
-use Rattle.count_core.specs.Sound.{sum_below}
+use Rattle.count_core.specs.SoundBelow.{sum_below}
 
 pub sum_same : (k : ℕ) (f g : ℕ → ℕ) → ((q : ℕ) → q < k → f q ≡ g q) → sum_below k f ≡ sum_below k g
 sum_same zero f g h = refl

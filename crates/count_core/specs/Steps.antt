@@ -1,9 +1,11 @@
 -- A world of counted nodes, and the one step relation: where each kind of step is possible, and what it does to its word and its views.
-use Rattle.std.specs.Prelude.{◌≡◌, ◌≢◌, ℕ, ◌+◌, ◌-◌, ◌^◌, ◌<◌, Bool, true, false, List, replicate, [], ◌∷◌, ◌++◌, length, slice_index, slice_index_or, slice_set, IsSome, option_to_list}
+use Rattle.std.specs.Prelude.{◌≡◌, ◌≢◌, ℕ, ◌+◌, ◌-◌, ◌<◌, Bool, true, false, List, replicate, [], ◌∷◌, ◌++◌, length, slice_index, slice_index_or}
+use Rattle.std.specs.Prelude.{slice_set, IsSome, option_to_list}
 use Rattle.node_forest.specs.Forest.{children, nodes_of}
 use Rattle.node_forest.specs.Label.{Node, number}
 use Rattle.node_forest.specs.Counts.{first}
 use Rattle.node_forest.specs.Paths.{NeverDeeper}
+use Rattle.count_core.specs.Limits.{word_limit}
 use Rattle.count_core.specs.Marks.{Change, FitsRoot, edited_holds}
 use Rattle.count_core.specs.Views.{without, without_all, AreHeld, passed_on, AreDifferent, AreBelow, moving, staying}
 
@@ -59,7 +61,7 @@ pub record CanShare (w : State) (v n : ℕ) : Type 0 where
   pub view : IsView w v
   pub place : IsPlace w n
   pub seen : IsSeen w v n
-  pub room : word_at w n < 2 ^ 32
+  pub room : word_at w n < word_limit
 
 pub record CanLeave (w : State) (v n : ℕ) : Type 0 where
   pub view : IsView w v
@@ -96,7 +98,7 @@ CanStep (look v n) w = CanLook w v n
 CanStep (mark v n path changes) w = CanMark w v n path changes
 CanStep (split v places) w = CanSplit w v places
 CanStep (merge v other) w = CanMerge w v other
-CanStep (counted v) w = IsView w v × (w.live < 2 ^ 32)
+CanStep (counted v) w = IsView w v × (w.live < word_limit)
 CanStep (uncounted v) w = IsView w v × (w.live ≢ 0)
 CanStep (home v) w = IsView w v
 

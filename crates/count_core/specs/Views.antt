@@ -1,5 +1,6 @@
 -- Lists of direct holds: taking one out, holding the children of a node, and dividing the holds by their places.
-use Rattle.std.specs.Prelude.{◌≡◌, ℕ, ◌+◌, ◌<◌, ◌≤◌, ◌==◌, ◌||◌, if◌then◌else◌, Bool, true, false, eqb, not, IsFalse, List, [], ◌∷◌, length, slice_index_or, Option, Some, None}
+use Rattle.std.specs.Prelude.{◌≡◌, ℕ, ◌+◌, ◌<◌, ◌≤◌, ◌==◌, ◌||◌, if◌then◌else◌, Bool, true, false, eqb, not, IsFalse, List, [], ◌∷◌, length}
+use Rattle.std.specs.Prelude.{slice_index_or, Option, Some, None}
 use Rattle.node_forest.specs.Forest.{children}
 use Rattle.node_forest.specs.Label.{Node, number}
 use Rattle.node_forest.specs.Members.{In}

@@ -1,5 +1,7 @@
 //! Changes in place on a copy of a tree and of the direct holds beside it.
-ghost use Rattle.std.specs.Prelude.{◌≡◌, ℕ, ◌+◌, ◌-◌, ◌^◌, ◌<◌, ◌≤◌, ◌↔◌, List, [], ◌∷◌, ◌++◌, length, slice_index, slice_set, IsTrue, IfOk, IfSome, OnOk, OnErr, MatchOption};
+ghost use Rattle.std.specs.Prelude.{◌≡◌, ℕ, ◌+◌, ◌-◌, ◌^◌, ◌<◌, ◌≤◌, ◌↔◌, List, [], ◌∷◌, ◌++◌, length, slice_index, slice_set, IsTrue, IfOk, IfSome, OnOk};
+ghost use Rattle.std.specs.Prelude.{OnErr, MatchOption};
+ghost use Rattle.node_forest.specs.Limits.{length_limit};
 ghost use Rattle.node_forest.specs.Label.{Node};
 ghost use Rattle.node_forest.specs.Sides.{outgoing, remaining, joined, KeepsChild, path_after};
 ghost use Rattle.node_forest.specs.Paths.{AreShort, NeverDeeper, child_of};
@@ -11,11 +13,11 @@ use crate::change::TreeChange;
 use crate::memory::Memory;
 use crate::tree::Tree;
 use crate::view::View;
-use node_forest::{Kind, Side};
+use node_forest::{Kind, MOST_EDGES, Side};
 use std::alloc::Global;
 use std::mem;
 
-/// Lengths on a path that is edited stay below this.
+/// Lengths on a path that is edited stay below this, so that the sum of a few never passes a word of 64 bits.
 const LENGTH_LIMIT: u64 = 1 << 63;
 
 /// Whether no change lies deeper than the one before it, and the first no deeper than this.
@@ -77,7 +79,7 @@ fn is_one(words: &[u64], number: u32) -> bool
 
 /// The lengths of the trees together, if they are below the limit.
 fn total(trees: &[Tree]) -> Option<u64>
-    ensures { MatchOption result (2 ^ 63 ≤ total trees.now) (λ sum. (sum ≡ total trees.now) × (sum < 2 ^ 63)) }
+    ensures { MatchOption result (length_limit ≤ total trees.now) (λ sum. (sum ≡ total trees.now) × (sum < length_limit)) }
 {
     let mut sum = 0u64;
     for tree in trees {
@@ -131,7 +133,8 @@ fn exchanged(
     count: usize,
 ) -> Result<(Vec<Tree>, Vec<Tree>), Memory>
     requires { count ≤ length old.items }
-    ensures { IfOk result (λ lists. (lists.0.items ≡ joined side new.items (remaining side count old.items)) × (lists.1.items ≡ outgoing side count old.items)) }
+    ensures { IfOk result (λ lists. (lists.0.items ≡ joined side new.items (remaining side count old.items))
+        × (lists.1.items ≡ outgoing side count old.items)) }
 {
     match side {
         Side::Front => {
@@ -159,7 +162,8 @@ fn exchange(
     count: usize,
     numbers: &[u32],
 ) -> Result<Option<usize>, Memory>
-    ensures { IfOk result (IsChangedHere (exchange side count numbers.now) (site tree.old path.now holds.old) (λ p. site tree.new (slice_set path.now 0 p) holds.new)) }
+    ensures { IfOk result (IsChangedHere (exchange side count numbers.now) (site tree.old path.now holds.old)
+        (λ p. site tree.new (slice_set path.now 0 p) holds.new)) }
 {
     let edges = tree.children.len();
     if !is_branch(tree) || count > edges || !keeps_child(side, count, edges, path) {
@@ -175,7 +179,7 @@ fn exchange(
         return Ok(None);
     };
     let many = kids.len();
-    if many < 1 || many > 6 {
+    if many < 1 || many > MOST_EDGES {
         return Ok(None);
     }
     holds.gain(out)?;
@@ -207,7 +211,8 @@ fn edit_here(
     holds: &mut View,
     change: &TreeChange,
 ) -> Result<Option<usize>, Memory>
-    ensures { IfOk result (IsChangedHere (change_of change.now) (site tree.old path.now holds.old) (λ p. site tree.new (slice_set path.now 0 p) holds.new)) }
+    ensures { IfOk result (IsChangedHere (change_of change.now) (site tree.old path.now holds.old)
+        (λ p. site tree.new (slice_set path.now 0 p) holds.new)) }
 {
     match change {
         TreeChange::Length { length } => Ok(resize(tree, path, *length)),
@@ -235,7 +240,8 @@ fn edit_here(
 
 /// A flat at the path's end gets a length, as `exchange`.
 fn resize(tree: &mut Tree, path: &[usize], length: u64) -> Option<usize>
-    ensures { MatchOption result (FitsFlat length tree.old path.now → ⊥) (λ place. FitsFlat length tree.old path.now × (tree.new ≡ with_bytes length [] 0 tree.old)) }
+    ensures { MatchOption result (FitsFlat length tree.old path.now
+        → ⊥) (λ place. FitsFlat length tree.old path.now × (tree.new ≡ with_bytes length [] 0 tree.old)) }
 {
     if tree.kind != Kind::Flat || length == 0 || length >= LENGTH_LIMIT || !path.is_empty() {
         return None;
@@ -254,7 +260,8 @@ fn edit(
     depth: u8,
     change: &TreeChange,
 ) -> Result<Option<usize>, Memory>
-    ensures { IfOk result (IsChanged (change_of change.now) depth (site tree.old path.now holds.old) (λ p. site tree.new (slice_set path.now depth p) holds.new)) }
+    ensures { IfOk result (IsChanged (change_of change.now) depth (site tree.old path.now holds.old)
+        (λ p. site tree.new (slice_set path.now depth p) holds.new)) }
 {
     if depth == 0 {
         if !are_short(tree, path) {

@@ -1,5 +1,6 @@
 //! What a token holds directly.
-ghost use Rattle.std.specs.Prelude.{◌≡◌, ℕ, ◌+◌, ◌<◌, ◌≤◌, ◌↔◌, Bool, true, false, [], ◌∷◌, ◌++◌, length, IsTrue, IsSome, IfOk, OnOk, OnErr, MatchOption, None, Some, slice_get, slice_index_or, remove, if◌then◌else◌};
+ghost use Rattle.std.specs.Prelude.{◌≡◌, ℕ, ◌+◌, ◌<◌, ◌≤◌, ◌↔◌, Bool, true, false, [], ◌∷◌, ◌++◌, length, IsTrue, IsSome, IfOk, OnOk, OnErr, MatchOption};
+ghost use Rattle.std.specs.Prelude.{None, Some, slice_get, slice_index_or, remove, if◌then◌else◌};
 ghost use Rattle.std.specs.Option.{option_copied};
 ghost use Rattle.node_forest.specs.Forest.{nodes_of};
 ghost use Rattle.node_forest.specs.Counts.{times, first};
@@ -116,7 +117,8 @@ impl View {
 
     /// The place of the first direct hold with the number.
     fn place_of(&self, number: u32) -> Option<usize>
-        ensures { MatchOption result ((first number self.now ≡ None) × (without number self.now ≡ self.now)) (λ i. (i < length self.now) × (slice_get self.now i ≡ first number self.now) × (without number self.now ≡ remove self.now i)) }
+        ensures { MatchOption result ((first number self.now ≡ None) × (without number self.now ≡ self.now))
+            (λ i. (i < length self.now) × (slice_get self.now i ≡ first number self.now) × (without number self.now ≡ remove self.now i)) }
     {
         for (i, tree) in self.holds.iter().enumerate() {
             if tree.number == number {
@@ -173,7 +175,8 @@ impl View {
         alloc: Global,
         numbers: &[u32],
     ) -> Result<Option<Vec<Tree>>, Memory>
-        ensures { IfOk result (λ trees. MatchOption trees (CanPull numbers.now self.old → ⊥) (λ v. CanPull numbers.now self.old × (v.items ≡ pulled numbers.now self.old) × (self.new ≡ unpulled numbers.now self.old))) }
+        ensures { IfOk result (λ trees. MatchOption trees (CanPull numbers.now self.old
+            → ⊥) (λ v. CanPull numbers.now self.old × (v.items ≡ pulled numbers.now self.old) × (self.new ≡ unpulled numbers.now self.old))) }
     {
         let mut out = Vec::new(alloc);
         for number in numbers {

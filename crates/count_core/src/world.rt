@@ -12,8 +12,8 @@ use crate::view::{View, marks_of};
 use std::alloc::Global;
 use std::mem;
 
-/// The greatest value that a step gives a word, and the word of live passes.
-const LIMIT: u64 = 1 << 32;
+/// No step raises a word, or that of live passes, above this, which is far from the end of their type.
+const WORD_LIMIT: u64 = 1 << 32;
 
 /// The words of all numbers, the word of live passes, and the views of all tokens. A word counts the holders of its number.
 #[derive(Debug, Drop)]
@@ -106,7 +106,10 @@ impl World {
         ensures done { IfOk result (λ done. Does (share view number) (state_of self.old) done (state_of self.new)) }
         ensures err { OnErr result (state_of self.new ≡ state_of self.old) }
     {
-        if !self.has_view(view) || !self.has_place(number) || self.words[number as usize] >= LIMIT {
+        if !self.has_view(view)
+            || !self.has_place(number)
+            || self.words[number as usize] >= WORD_LIMIT
+        {
             return Ok(false);
         }
         let Some(tree) = self.views[view as usize].first(number) else {
@@ -207,7 +210,7 @@ impl World {
     fn counted(&mut self, view: u32) -> bool
         ensures { Does (counted view) (state_of self.old) result (state_of self.new) }
     {
-        if !self.has_view(view) || self.live >= LIMIT {
+        if !self.has_view(view) || self.live >= WORD_LIMIT {
             return false;
         }
         self.live += 1;

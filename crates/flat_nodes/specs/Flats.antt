@@ -2,7 +2,7 @@
 use Rattle.std.specs.Prelude.{ℕ, ◌≡◌, ◌-◌, ◌<◌, List, [], ◌∷◌, ◌++◌, length}
 use Rattle.node_forest.specs.declared.kind.Kind.{Kind}
 use Rattle.node_forest.specs.declared.kind.Kind.TheVariants.{Flat}
-use Rattle.node_forest.specs.Label.{Node, number}
+use Rattle.node_forest.specs.Label.{Node, number, flat_room}
 use Rattle.node_edges.specs.Body.{flat_node}
 use Rattle.pool_rule.specs.Views.{View}
 use Rattle.node_pool.specs.Answers.{noting_all}
@@ -18,7 +18,7 @@ room_by Flat room = room
 room_by _ room = 0
 
 abbrev pub room_in : Node → ℕ
-room_in e = room_by e.0.kind e.0.more
+room_in e = room_by e.0.kind (flat_room e.0)
 
 -- one number more was taken, and its hold is the last
 abbrev pub added : Node → View → View

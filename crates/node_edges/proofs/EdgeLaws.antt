@@ -6,14 +6,14 @@ use Rattle.std.proofs.lemmas.List.Sums.{sum_by-append}
 use Rattle.std.proofs.Math.Numerals.{add-one}
 use Rattle.node_forest.specs.declared.kind.Kind.TheVariants as kinds
 use Rattle.node_forest.specs.Forest.{Forest, empty, grow, trees, forest, children}
-use Rattle.node_forest.specs.Label.{Node, Label}
+use Rattle.node_forest.specs.Label.{Node, Label, bone_of}
 use Rattle.node_forest.proofs.Maps.{trees-forest, trees-map, forest-map}
 use Rattle.node_edges.specs.declared.edge.Body.{Body}
 use Rattle.node_edges.specs.declared.edge.Body.TheVariants.{Flat, External, Part, Sum, Branch}
 use Rattle.node_edges.specs.Body.{edges_in_body, label_with, node_with, HasBody, IsNodeOf, IsBranchOf, renumbered}
 use Rattle.tree_shapes.specs.Shape.{level, length_of, branch_over}
 use Rattle.node_edges.specs.Text.{joined_text, text}
-use Rattle.node_edges.specs.Trees.{form_of, bone_of, shape_of, skeleton_of}
+use Rattle.node_edges.specs.Trees.{form_of, shape_of, skeleton_of}
 
 pub children-shape : (e : Node) → children (shape_of e) ≡ map shape_of (children e)
 unfolding shape_of

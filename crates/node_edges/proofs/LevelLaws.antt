@@ -1,6 +1,6 @@
 -- What a list of changes makes of a node that is seen by its body, from the top of the path down.
 use Rattle.std.specs.Global.{Vec}
-use Rattle.std.proofs.Common.{ℕ, zero, suc, ◌≡◌, ◌+◌, ◌-◌, ◌^◌, ◌<◌, ◌≤◌, true, false, eqb, eq-eqb, ne_eqb, List, [], ◌∷◌, ◌++◌, length, get_or, set, take, drop, refl, sym, ap, ◌∙◌, subst, arith, take-append-drop}
+use Rattle.std.proofs.Common.{ℕ, zero, suc, ◌≡◌, ◌+◌, ◌-◌, ◌^◌, ◌<◌, ◌≤◌, true, false, eqb, eq-eqb, ne_eqb, List, [], ◌∷◌, ◌++◌, length, get_or, set, take, drop, map, reverse, refl, sym, ap, ◌∙◌, subst, arith, take-append-drop}
 use mathlib.Core.Logic.{dite}
 use native.Mathlib.Decide.{ℕ_discrete}
 use Rattle.std.proofs.lemmas.List.{get_or_read}
@@ -14,8 +14,16 @@ use Rattle.node_edges.specs.declared.edge.Body.TheVariants.{Flat, External, Part
 use Rattle.node_edges.specs.Body.{node_with, IsMade}
 use Rattle.node_forest.specs.Changes.{Exchange, Edit, resize, exchange, Site, site, total, raised, FitsAt}
 use Rattle.node_edges.specs.Changes.{edit_of, edits, FitEach}
-use Rattle.node_edges.specs.Levels.{exchanges_in, all_count, all_bytes, all_room, FitAllBytes, most_out, lowered, AreDeep, AreAt}
+use Rattle.node_edges.specs.declared.exchange.Ready.{Ready}
+use Rattle.node_edges.specs.Levels.{exchange_of, exchanges_in, all_after, all_count, all_bytes, all_room, FitAllBytes, most_out, lowered, AreDeep, AreAt}
 use Rattle.node_edges.proofs.EditLaws.{edits-append, fits-append, most-append, lowered-append, lowered-lowered, length-lowered, exchanges-lowered, deep-lowered, at-lowered, flat_at, flat_fits, flat_edits, bytes-lowered, room-lowered, fit-lowered, IsFit, fit_edits, no_path, in_kids, deeper-edits, deeper-fits, count-most, branch_at, IsMadeBy, made_own}
+
+-- ---- what the code's tests tell
+pub none-there : {X : Type 0} (xs : List X) → true ≡ eqb (length xs) 0 → length xs ≡ 0
+none-there xs e = dite (ℕ_discrete (length xs) 0) (λ z. z) (λ n. absurd (let f = ne_eqb (length xs) 0 n in cc))
+
+pub some-there : {X : Type 0} (xs : List X) → false ≡ eqb (length xs) 0 → 0 < length xs
+some-there xs e = dite (ℕ_discrete (length xs) 0) (λ z. absurd (let f = eq-eqb (length xs) 0 z in cc)) (λ n. omega arith)
 
 -- ---- at a flat
 module _ (cs : List (ℕ × Change)) (depth n l room : ℕ) (bytes : Vec ℕ) (v : Body) (e : Node) (path : List ℕ) (out : List Node) (is : Flat bytes room ≡ v) (view : node_with n l v ≡ e) (inv : IsMade l v)
@@ -83,6 +91,12 @@ module _ (cs : List (ℕ × Change)) (depth n l h : ℕ) (es : Vec Node) (v : Bo
       (subst (λ (z : List Exchange). IsMadeBy n h z es.items out (edits (lowered depth cs) (site t path out))) same_xs made) in
       let can = subst (λ (z : List Exchange). IsMadeBy n h z es.items out (edits (lowered depth cs) (site e path out))) all moved in
       record { made = moved; count = ap all_count all ∙ count-most cs es.items branch-few can.can }
+
+  -- the same, as the code finds it: of the changes, cut in two, none lies deeper, and the others are made ready
+  pub own-here : (k : ℕ) (back : List (ℕ × Change)) (ready : List Ready) → k ≡ 0 → AreAt depth (drop k cs) → back ≡ drop k cs → reverse (map exchange_of ready) ≡ exchanges_in back
+      → IsLevel cs n h (reverse (map exchange_of ready)) es.items out (edits (lowered depth cs) (site e path out))
+  own-here k back ready none at split all =
+      own-level (reverse (map exchange_of ready)) (all ∙ ap exchanges_in (split ∙ ap (λ (j : ℕ). drop j cs) none)) (subst (λ (j : ℕ). AreAt depth (drop j cs)) none at)
 
   -- some lie deeper
   module _ (k : ℕ) (deep : AreDeep (depth + 1) (take k cs)) (at : AreAt depth (drop k cs)) (some : 0 < length (take k cs)) where
@@ -181,6 +195,28 @@ module _ (cs : List (ℕ × Change)) (depth n l h : ℕ) (es : Vec Node) (v : Bo
         below-level ys new gone all made went =
             subst (λ (z : Node × List Node). IsLevel (drop k cs) n h ys (set es.items p z.0) z.1 (edits (lowered depth cs) (site e path out))) (λ i. (sym made i, sym went i)) (below_made ys all)
 
+  -- the same, as the code finds it: of the changes, cut in two, some lie deeper, and the others are made ready
+  pub below-here : (k : ℕ) (front back : List (ℕ × Change)) (ready : List Ready) (p : ℕ) (ps : List ℕ) (child new : Node) (gone : List Node)
+      → AreDeep (depth + 1) (take k cs) → AreAt depth (drop k cs) → false ≡ eqb (length front) 0 → front ≡ take k cs → back ≡ drop k cs → path ≡ p ∷ ps → child ≡ get_or es.items p child
+      → reverse (map exchange_of ready) ≡ exchanges_in back
+      → new ≡ (edits (lowered (depth + 1) front) (site child ps out)).tree → gone ≡ (edits (lowered (depth + 1) front) (site child ps out)).out
+      → IsLevel (drop k cs) n h (reverse (map exchange_of ready)) (set es.items p new) gone (edits (lowered depth cs) (site e path out))
+  below-here k front back ready p ps child new gone deep at some is_front is_back split read all came went =
+      let end : List (ℕ × Change) → Site = λ z. edits (lowered (depth + 1) z) (site child ps out) in
+      below-level k deep at (subst (λ (z : List (ℕ × Change)). 0 < length z) is_front (some-there front some)) p ps split child read (reverse (map exchange_of ready)) new gone
+      (all ∙ ap exchanges_in is_back) (came ∙ ap (λ (z : List (ℕ × Change)). (end z).tree) is_front) (went ∙ ap (λ (z : List (ℕ × Change)). (end z).out) is_front)
+
+-- the length and the edges of the Branch that exchanges made
+pub made-branch : (xs : List Exchange) (es : List Node) (new : Vec Node) (long : ℕ) → new.items ≡ all_after xs es → long ≡ total new.items
+    → total (all_after xs es) < 2 ^ 63 → 0 < length (all_after xs es) → length (all_after xs es) ≤ 6 → (h : ℕ) → IsMade long (Branch h new)
+made-branch xs es new long made sum short some few h =
+    let same = ap total made in
+    let count : length new.items ≡ length (all_after xs es) = ap (λ (z : List Node). length z) made in
+    record {
+      long = sum;
+      body = record { small = omega (arith, same, short); few = (let l : 0 < length new.items = omega arith in l, let l : length new.items ≤ 6 = omega arith in l) };
+    }
+
 -- what may go is what goes at this node and below it
 pub most-parts : (k : ℕ) (cs : List (ℕ × Change)) → most_out cs ≡ most_out (take k cs) + most_out (drop k cs)
 most-parts k cs = ap most_out (sym (take-append-drop k cs)) ∙ most-append (take k cs) (drop k cs)
@@ -209,10 +245,3 @@ fits-kinds [] depth n l v e path out some view fits no_flat no_branch = absurd (
 fits-kinds (c ∷ cs) depth n l v e path out some view fits no_flat no_branch =
     no_other (edit_of c.1 (at_depth (c.0 - depth) e path)) (c.0 - depth) n l v path
     (subst (λ (z : Node). FitsAt (edit_of c.1 (at_depth (c.0 - depth) e path)) (c.0 - depth) z path) (sym view) fits.0.0) no_flat no_branch
-
--- ---- what the code's tests tell
-pub none-there : {X : Type 0} (xs : List X) → true ≡ eqb (length xs) 0 → length xs ≡ 0
-none-there xs e = dite (ℕ_discrete (length xs) 0) (λ z. z) (λ n. absurd (let f = ne_eqb (length xs) 0 n in cc))
-
-pub some-there : {X : Type 0} (xs : List X) → false ≡ eqb (length xs) 0 → 0 < length xs
-some-there xs e = dite (ℕ_discrete (length xs) 0) (λ z. absurd (let f = eq-eqb (length xs) 0 z in cc)) (λ n. omega arith)

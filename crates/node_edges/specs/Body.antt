@@ -1,7 +1,8 @@
 -- What contracts see of an edge: a node, from the edge's number, its length and its body.
-use Rattle.std.specs.Prelude.{◌≡◌, ℕ, ◌^◌, ◌<◌, ◌≤◌, List, [], ◌∷◌, length, Some, None}
+use Rattle.std.specs.Prelude.{◌≡◌, ℕ, ◌<◌, ◌≤◌, List, [], ◌∷◌, length, Some, None}
 use Rattle.node_forest.specs.declared.kind.Kind.TheVariants as kinds
 use Rattle.node_forest.specs.Forest.{empty, forest}
+use Rattle.node_forest.specs.Limits.{most_edges, length_limit}
 use Rattle.node_forest.specs.Label.{Label, Node}
 use Rattle.node_forest.specs.Changes.{total}
 use Rattle.node_edges.specs.declared.edge.Body.{Body}
@@ -42,7 +43,7 @@ node_of n b = node_with n (body_length b) b
 
 -- a Branch has 1 to 6 edges
 abbrev pub HasFewEdges : Body → Type 0
-HasFewEdges (Branch h es) = (0 < length es.items) × (length es.items ≤ 6)
+HasFewEdges (Branch h es) = (0 < length es.items) × (length es.items ≤ most_edges)
 HasFewEdges _ = Unit {0}
 
 -- the node of a flat with these bytes and this room
@@ -55,7 +56,7 @@ branch_node n h es = (record { number = n; kind = kinds.Branch; length = total e
 
 -- what may be a node's body
 pub record IsBody (b : Body) : Type 0 where
-  pub small : body_length b < 2 ^ 63
+  pub small : body_length b < length_limit
   pub few : HasFewEdges b
 
 -- what is true of every edge's length and body

@@ -1,9 +1,10 @@
 -- Changes of an edge in place: each as an edit of the node at its depth, where it fits, and a list of them.
-use Rattle.std.specs.Prelude.{ℕ, ◌+◌, ◌-◌, ◌^◌, ◌<◌, ◌≤◌, List, [], ◌∷◌, ◌++◌, length, take}
+use Rattle.std.specs.Prelude.{ℕ, ◌+◌, ◌-◌, ◌<◌, ◌≤◌, List, [], ◌∷◌, ◌++◌, length, take}
 use Rattle.node_forest.specs.declared.side.Side.TheVariants.{Front}
-use Rattle.node_forest.specs.Label.{Node}
+use Rattle.node_forest.specs.Label.{Node, flat_room}
 use Rattle.node_forest.specs.Paths.{at_depth}
 use Rattle.node_forest.specs.Changes.{Site, Exchange, Edit, resize, exchange, edit, FitsAt}
+use Rattle.node_edges.specs.Limits.{capacity_limit}
 use Rattle.node_edges.specs.declared.change.Change.{Change}
 use Rattle.node_edges.specs.declared.change.Change.TheVariants.{Fill, Shorten, Add, Drop, Swap}
 
@@ -17,14 +18,14 @@ exchange_in (Shorten n) = record { side = Front; count = 0; new = [] }
 
 -- bytes come behind a flat's own, or its last bytes become room
 abbrev pub edit_of : Change → Node → Edit
-edit_of (Fill bytes) t = resize (t.0.length + length bytes.items) (t.0.bytes ++ bytes.items) (t.0.more - length bytes.items)
-edit_of (Shorten n) t = resize n (take n t.0.bytes) (t.0.more + (t.0.length - n))
+edit_of (Fill bytes) t = resize (t.0.length + length bytes.items) (t.0.bytes ++ bytes.items) (flat_room t.0 - length bytes.items)
+edit_of (Shorten n) t = resize n (take n t.0.bytes) (flat_room t.0 + (t.0.length - n))
 edit_of c t = exchange (exchange_in c)
 
 -- a flat has room for the bytes that come, or the bytes that stay
 abbrev pub HasRoomFor : Change → Node → Type 0
-HasRoomFor (Fill bytes) t = length bytes.items ≤ t.0.more
-HasRoomFor (Shorten n) t = (n ≤ t.0.length) × (t.0.more + t.0.length < 2 ^ 32)
+HasRoomFor (Fill bytes) t = length bytes.items ≤ flat_room t.0
+HasRoomFor (Shorten n) t = (n ≤ t.0.length) × (flat_room t.0 + t.0.length < capacity_limit)
 HasRoomFor _ t = Unit {0}
 
 -- ---- a change at a depth of the path

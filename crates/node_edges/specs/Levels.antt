@@ -1,10 +1,12 @@
 -- How a list of changes is done from the top of its path down: the changes at one node, and those below it.
-use Rattle.std.specs.Prelude.{◌≡◌, ℕ, ◌+◌, ◌-◌, ◌^◌, ◌<◌, ◌≤◌, min, List, [], ◌∷◌, ◌++◌, length, take}
+use Rattle.std.specs.Prelude.{◌≡◌, ℕ, ◌+◌, ◌-◌, ◌<◌, ◌≤◌, min, List, [], ◌∷◌, ◌++◌, length, take}
+use Rattle.node_forest.specs.Limits.{most_edges}
 use Rattle.node_forest.specs.Label.{Node}
 use Rattle.node_edges.specs.declared.change.Change.{Change}
 use Rattle.node_edges.specs.declared.change.Change.TheVariants.{Fill, Shorten}
 use Rattle.node_edges.specs.declared.exchange.Ready.{Ready}
 use Rattle.node_forest.specs.Changes.{Exchange, edges_after, edges_out}
+use Rattle.node_edges.specs.Limits.{capacity_limit}
 use Rattle.node_edges.specs.Changes.{exchange_in}
 
 -- ---- exchanges at one Branch
@@ -31,7 +33,7 @@ all_count (x ∷ xs) = x.count + all_count xs
 -- each takes edges that are there, and leaves at most 6
 abbrev pub CanExchange : List Exchange → List Node → Type 0
 CanExchange [] es = Unit {0}
-CanExchange (x ∷ xs) es = (x.count ≤ length es) × (length (edges_after x es) ≤ 6) × CanExchange xs (edges_after x es)
+CanExchange (x ∷ xs) es = (x.count ≤ length es) × (length (edges_after x es) ≤ most_edges) × CanExchange xs (edges_after x es)
 
 -- ---- changes of one flat's bytes and room
 abbrev pub bytes_after : Change → List ℕ → List ℕ
@@ -46,7 +48,7 @@ room_after _ bytes room = room
 
 abbrev pub FitsBytes : Change → List ℕ → ℕ → Type 0
 FitsBytes (Fill more) bytes room = length more.items ≤ room
-FitsBytes (Shorten n) bytes room = (n ≤ length bytes) × (room + length bytes < 2 ^ 32)
+FitsBytes (Shorten n) bytes room = (n ≤ length bytes) × (room + length bytes < capacity_limit)
 FitsBytes _ bytes room = ⊥
 
 abbrev pub all_bytes : List (ℕ × Change) → List ℕ → List ℕ
@@ -65,7 +67,7 @@ FitAllBytes (c ∷ cs) bytes room = FitsBytes c.1 bytes room × FitAllBytes cs (
 -- how many edges may go; a Branch has at most 6
 abbrev pub most_out : List (ℕ × Change) → ℕ
 most_out [] = 0
-most_out (c ∷ cs) = min (exchange_in c.1).count 6 + most_out cs
+most_out (c ∷ cs) = min (exchange_in c.1).count most_edges + most_out cs
 
 -- the depths counted from so many nodes further down
 abbrev pub lowered : ℕ → List (ℕ × Change) → List (ℕ × Change)

@@ -1,4 +1,5 @@
 -- The definitions of this crate.
+pub mod Limits
 pub mod Body
 pub mod Falls
 pub mod Text

@@ -4,13 +4,13 @@ use Rattle.std.specs.List.{flat_map}
 use Rattle.node_forest.specs.declared.kind.Kind.{Kind}
 use Rattle.node_forest.specs.declared.kind.Kind.TheVariants.{Flat, External, Part, Sum, Branch}
 use Rattle.node_forest.specs.Forest.{Forest, empty, grow, children}
-use Rattle.node_forest.specs.Label.{Label, Node}
+use Rattle.node_forest.specs.Label.{Label, Node, part_start}
 
 -- the text of a node of a kind, from the texts of its edges, joined
 abbrev pub text_step : Kind → Label → List ℕ → List ℕ
 text_step Flat l below = l.bytes
 text_step External l below = l.bytes
-text_step Part l below = take l.length (drop l.more below)
+text_step Part l below = take l.length (drop (part_start l) below)
 text_step Sum l below = below
 text_step Branch l below = below
 

@@ -3,7 +3,7 @@ use Rattle.std.specs.Prelude.{ℕ, ◌≡◌, [], length}
 use Rattle.node_forest.specs.declared.kind.Kind.{Kind}
 use Rattle.node_forest.specs.declared.kind.Kind.TheVariants.{Flat, External}
 use Rattle.node_forest.specs.Forest.{Forest, empty, grow, map_tree}
-use Rattle.node_forest.specs.Label.{Label, Node}
+use Rattle.node_forest.specs.Label.{Label, Node, bone_of}
 use Rattle.tree_shapes.specs.Shape.{Form, Shape, level, IsNode, IsRoot}
 
 -- a slot is no part of a shape
@@ -17,9 +17,6 @@ form_of l = record { kind = l.kind; length = l.length; more = more_of l.kind l.m
 -- kinds, rooms, starts, lengths, sums and heights
 unfoldable pub shape_of : Node → Shape
 shape_of e = map_tree form_of e
-
-abbrev pub bone_of : Label → Label
-bone_of l = record { number = l.number; kind = l.kind; length = l.length; bytes = []; more = 0 }
 
 -- numbers, kinds and lengths: a tree as the plain worlds of the count rule have it
 unfoldable pub skeleton_of : Node → Node

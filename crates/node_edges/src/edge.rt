@@ -1,5 +1,6 @@
 //! Edges and their bodies.
-ghost use Rattle.std.specs.Prelude.{◌≡◌, ◌^◌, ◌<◌, IfOk};
+ghost use Rattle.std.specs.Prelude.{◌≡◌, ◌<◌, IfOk};
+ghost use Rattle.node_forest.specs.Limits.{length_limit};
 ghost use Rattle.node_forest.specs.Changes.{total};
 ghost use Rattle.node_edges.specs.Body.{IsNodeOf, IsBody, body_length, node_of, renumbered};
 ghost use Rattle.node_edges.specs.Text.{text};
@@ -98,7 +99,7 @@ impl Edge {
     /// How many bytes the text has.
     pub fn length(&self) -> u64
         ensures is { result ≡ self.now.0.length }
-        ensures small { result < 2 ^ 63 }
+        ensures small { result < length_limit }
     {
         self.length
     }
@@ -160,7 +161,7 @@ impl Edge {
 impl Body {
     /// How many bytes the text of a node with this body has.
     pub fn length(&self) -> u64
-        requires { body_length self.now < 2 ^ 63 }
+        requires { body_length self.now < length_limit }
         ensures { result ≡ body_length self.now }
     {
         match self {
@@ -178,7 +179,7 @@ impl Body {
 
 /// The lengths of the edges together.
 pub(crate) fn total(edges: &[Edge]) -> u64
-    requires { total edges.now < 2 ^ 63 }
+    requires { total edges.now < length_limit }
     ensures { result ≡ total edges.now }
 {
     let mut sum = 0u64;

@@ -3,6 +3,7 @@ ghost use Rattle.std.specs.Prelude.{◌≡◌, ℕ, ◌+◌, ◌^◌, ◌<◌, �
 ghost use Rattle.node_forest.specs.Paths.{NeverDeeper};
 ghost use Rattle.node_edges.specs.Body.{IsBody, IsCopy};
 ghost use Rattle.node_forest.specs.Changes.{site};
+ghost use Rattle.node_edges.specs.Limits.{most_changes};
 ghost use Rattle.node_edges.specs.Changes.{edits, FitEach};
 ghost use Rattle.node_edges.specs.Levels.{lowered, AreDeep, AreAt, most_out};
 
@@ -11,6 +12,7 @@ use crate::edge::{Body, Edge, total};
 use crate::exchange::{all_ready, copies, exchange_all, most_out};
 use crate::filling::fill_and_shorten;
 use crate::memory::Memory;
+use node_forest::MOST_EDGES;
 use std::alloc::Global;
 use std::sync::Arc;
 
@@ -102,7 +104,7 @@ impl Edge {
         path: &[u8],
         changes: &[(u8, Change)],
     ) -> Result<Vec<Edge>, Memory>
-        requires few { length changes.now ≤ 26 }
+        requires few { length changes.now ≤ most_changes }
         requires order { NeverDeeper (length path.now) changes.now }
         requires fit { FitEach changes.now (site self.old path.now []) }
         ensures edited { OnOk result (self.new ≡ (edits changes.now (site self.old path.now [])).tree) }
@@ -164,7 +166,7 @@ fn edit_below(
     }
     if let Body::Branch { edges, .. } = body {
         let (deeper, own) = changes.split_at(deeper_than(changes, depth));
-        edges.reserve(6 - edges.len())?;
+        edges.reserve(MOST_EDGES - edges.len())?;
         let ready = all_ready(alloc, own)?;
         if deeper.is_empty() {
             exchange_all(edges, ready, out);

@@ -104,7 +104,8 @@ fn a_branch_gets_edges_at_its_sides_and_loses_some(rt: HostRuntime) {
 
 /// A Branch over two Branches, each over two flats.
 fn four_flats(alloc: Global) -> Result<Edge, Memory>
-    ensures { IfOk result (λ e. e ≡ branch_node 9 1 (branch_node 7 0 (flat_node 1 (97 ∷ []) 31 ∷ flat_node 2 (98 ∷ []) 31 ∷ []) ∷ branch_node 8 0 (flat_node 3 (99 ∷ []) 31 ∷ flat_node 4 (100 ∷ []) 31 ∷ []) ∷ [])) }
+    ensures { IfOk result (λ e. e ≡ branch_node 9 1 (branch_node 7 0 (flat_node 1 (97 ∷ []) 31 ∷ flat_node 2 (98 ∷ []) 31 ∷ [])
+        ∷ branch_node 8 0 (flat_node 3 (99 ∷ []) 31 ∷ flat_node 4 (100 ∷ []) 31 ∷ []) ∷ [])) }
 {
     let left = branch(alloc, 7, 0, flat(alloc, 1, b"a")?, flat(alloc, 2, b"b")?)?;
     let right = branch(alloc, 8, 0, flat(alloc, 3, b"c")?, flat(alloc, 4, b"d")?)?;

@@ -1,13 +1,15 @@
 //! Edges of a Branch that go, and others that come in their place, with all that this needs made beforehand.
 ghost use Rattle.std.specs.Prelude.{◌≡◌, ℕ, ◌+◌, ◌*◌, ◌^◌, ◌≤◌, ◌<◌, List, ◌++◌, length, take, drop, map, reverse, vec_len, vec_capacity, IfOk};
 ghost use Rattle.node_forest.specs.Changes.{edges_after, edges_out};
+ghost use Rattle.node_forest.specs.Limits.{most_edges};
+ghost use Rattle.node_edges.specs.Limits.{most_changes};
 ghost use Rattle.node_edges.specs.Changes.{exchange_in};
 ghost use Rattle.node_edges.specs.Levels.{exchange_of, exchanges_in, all_after, all_out, all_count, CanExchange, most_out};
 
 use crate::change::Change;
 use crate::edge::Edge;
 use crate::memory::Memory;
-use node_forest::Side;
+use node_forest::{MOST_EDGES, Side};
 use std::alloc::Global;
 
 /// So many edges at a side go, and then these come there.
@@ -18,15 +20,15 @@ pub(crate) struct Ready {
     new: Vec<Edge>,
 }
 
-/// How many edges the changes take off at most; no Branch has more than 6.
+/// How many edges the changes take off at most; no Branch has more than `MOST_EDGES`.
 pub(crate) fn most_out(changes: &[(u8, Change)]) -> usize
-    requires { length changes.now ≤ 26 }
+    requires { length changes.now ≤ most_changes }
     ensures { result ≡ most_out changes.now }
 {
     let mut sum = 0;
     for (_, change) in changes {
         sum += match change {
-            Change::Drop { count, .. } => (*count).min(6),
+            Change::Drop { count, .. } => (*count).min(MOST_EDGES),
             Change::Swap { .. } => 1,
             _ => 0,
         };
@@ -106,8 +108,8 @@ fn put_in(edges: &mut Vec<Edge>, at: usize, mut new: Vec<Edge>)
 /// Does one exchange. What goes stands at the end of `out`.
 fn exchange(edges: &mut Vec<Edge>, ready: Ready, out: &mut Vec<Edge>)
     requires enough { ready.count ≤ length edges.old.items }
-    requires few { length (edges_after (exchange_of ready) edges.old.items) ≤ 6 }
-    requires wide { 6 ≤ vec_capacity edges.old }
+    requires few { length (edges_after (exchange_of ready) edges.old.items) ≤ most_edges }
+    requires wide { most_edges ≤ vec_capacity edges.old }
     requires room { vec_len out.old + ready.count ≤ vec_capacity out.old }
     ensures edges { edges.new.items ≡ edges_after (exchange_of ready) edges.old.items }
     ensures out { out.new.items ≡ out.old.items ++ edges_out (exchange_of ready) edges.old.items }
@@ -131,7 +133,7 @@ fn exchange(edges: &mut Vec<Edge>, ready: Ready, out: &mut Vec<Edge>)
 /// Does the exchanges, of which the last stands first. What goes stands at the end of `out`.
 pub(crate) fn exchange_all(edges: &mut Vec<Edge>, mut ready: Vec<Ready>, out: &mut Vec<Edge>)
     requires fit { CanExchange (reverse (map exchange_of ready.items)) edges.old.items }
-    requires wide { 6 ≤ vec_capacity edges.old }
+    requires wide { most_edges ≤ vec_capacity edges.old }
     requires room { vec_len out.old + all_count (reverse (map exchange_of ready.items)) ≤ vec_capacity out.old }
     ensures edges { edges.new.items ≡ all_after (reverse (map exchange_of ready.items)) edges.old.items }
     ensures out { out.new.items ≡ all_out (reverse (map exchange_of ready.items)) edges.old.items out.old.items }

@@ -3,6 +3,7 @@ ghost use Rattle.std.specs.Prelude.{◌≡◌, ℕ, suc, ◌<◌, ◌≤◌, Lis
 ghost use Rattle.std.specs.List.{flat_map};
 ghost use Rattle.node_forest.specs.declared.kind.Kind.TheVariants.{Flat};
 ghost use Rattle.node_forest.specs.Forest.{children, map_forest};
+ghost use Rattle.node_forest.specs.Limits.{most_edges};
 ghost use Rattle.node_forest.specs.Label.{Node};
 ghost use Rattle.node_edges.specs.Body.{IsBranchOf};
 ghost use Rattle.node_forest.specs.Changes.{with_bytes, with_edges};
@@ -30,7 +31,7 @@ pub fn shapes_follow_edges()
 
 /// 1 to 6 well formed nodes of one level stand under a Branch of the next, and a well formed Branch has no other edges.
 pub fn branches_over_trees_are_trees()
-    ensures made { (e : Node) (h : ℕ) (es : List Node) → IsBranchOf h es e → 0 < length es → length es ≤ 6 → All (IsTreeAt h) es → IsTreeAt (suc h) e }
+    ensures made { (e : Node) (h : ℕ) (es : List Node) → IsBranchOf h es e → 0 < length es → length es ≤ most_edges → All (IsTreeAt h) es → IsTreeAt (suc h) e }
     ensures opened { (l : ℕ) (e : Node) → IsTreeAt (suc l) e → All (IsTreeAt l) (children e) }
 {}
 
@@ -39,5 +40,6 @@ pub fn branches_over_trees_are_trees()
 pub fn changed_nodes_keep_their_kinds()
     ensures edges { (h : ℕ) (es new : List Node) (t : Node) → IsBranchOf h es t → IsBranchOf h new (with_edges new t) }
     ensures text { (t : Node) (l room : ℕ) (bytes : List ℕ) → t.0.kind ≡ Flat → text (with_bytes l bytes room t) ≡ bytes }
-    ensures shape { (t : Node) (l room : ℕ) (bytes : List ℕ) → t.0.kind ≡ Flat → shape_of (with_bytes l bytes room t) ≡ (record { kind = Flat; length = l; more = room }, map_forest form_of t.1) }
+    ensures shape { (t : Node) (l room : ℕ) (bytes : List ℕ) → t.0.kind ≡ Flat
+        → shape_of (with_bytes l bytes room t) ≡ (record { kind = Flat; length = l; more = room }, map_forest form_of t.1) }
 {}

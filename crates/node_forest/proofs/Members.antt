@@ -22,10 +22,6 @@ pub nodes_append : (a b : List Node) → nodes_of (a ++ b) ≡ nodes_of a ++ nod
 nodes_append [] b = refl
 nodes_append (t ∷ ts) b = search (nodes_append ts b, append_assoc)
 
-pub trees_forest : (ts : List Node) → trees (forest ts) ≡ ts
-trees_forest [] = refl
-trees_forest (t ∷ ts) = λ i. t ∷ trees_forest ts i
-
 pub nodes_trees : (f : Forest Label) → nodes_of (trees f) ≡ nodes f
 nodes_trees empty = refl
 nodes_trees (grow l cs rest) = λ i. (l, cs) ∷ (nodes cs ++ nodes_trees rest i)

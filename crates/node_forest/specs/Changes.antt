@@ -1,8 +1,9 @@
 -- Changes of a tree in place along a path: what an edit makes of a node, of the nodes above it and of the trees outside, and where it fits.
-use Rattle.std.specs.Prelude.{◌≡◌, ℕ, zero, suc, ◌^◌, ◌<◌, ◌≤◌, List, [], ◌∷◌, ◌++◌, length, sum_by, slice_set}
+use Rattle.std.specs.Prelude.{◌≡◌, ℕ, zero, suc, ◌<◌, ◌≤◌, List, [], ◌∷◌, ◌++◌, length, sum_by, slice_set}
 use Rattle.node_forest.specs.declared.kind.Kind.TheVariants.{Flat, Branch}
 use Rattle.node_forest.specs.declared.side.Side.{Side}
 use Rattle.node_forest.specs.Forest.{forest, children}
+use Rattle.node_forest.specs.Limits.{most_edges, length_limit}
 use Rattle.node_forest.specs.Label.{Node}
 use Rattle.node_forest.specs.Sides.{outgoing, remaining, joined, KeepsChild, path_after}
 use Rattle.node_forest.specs.Paths.{child_of, AreShort, beside}
@@ -71,7 +72,7 @@ edited (exchange x) s = exchanged x s
 pub record FitsFlat (long : ℕ) (t : Node) (path : List ℕ) : Type 0 where
   pub flat : t.0.kind ≡ Flat
   pub some : 1 ≤ long
-  pub short : long < 2 ^ 63
+  pub short : long < length_limit
   pub ends : path ≡ []
 
 -- a Branch has the edges that go, its child on the path isn't among them, and it has 1 to 6 edges then
@@ -80,8 +81,8 @@ pub record FitsBranch (x : Exchange) (t : Node) (path : List ℕ) : Type 0 where
   pub enough : x.count ≤ length (children t)
   pub keeps : KeepsChild x.side x.count (length (children t)) path
   pub some : 1 ≤ length (edges_after x (children t))
-  pub few : length (edges_after x (children t)) ≤ 6
-  pub short : total (edges_after x (children t)) < 2 ^ 63
+  pub few : length (edges_after x (children t)) ≤ most_edges
+  pub short : total (edges_after x (children t)) < length_limit
 
 abbrev pub Fits : Edit → Node → List ℕ → Type 0
 Fits (resize long bytes room) t path = FitsFlat long t path
@@ -101,4 +102,5 @@ abbrev pub FitsAt : Edit → ℕ → Node → List ℕ → Type 0
 FitsAt e zero t path = Fits e t path × AreShort t path
 FitsAt e (suc d) t [] = ⊥
 FitsAt e (suc d) t (p ∷ ps) =
-    (t.0.kind ≡ Branch) × (p < length (children t)) × FitsAt e d (child_of t p) ps × (total (slice_set (children t) p (edit e d (child_of t p) ps []).tree) < 2 ^ 63)
+    (t.0.kind ≡ Branch) × (p < length (children t)) × FitsAt e d (child_of t p) ps
+    × (total (slice_set (children t) p (edit e d (child_of t p) ps []).tree) < length_limit)

@@ -1,5 +1,6 @@
 -- The definitions of this crate.
 pub mod Forest
+pub mod Limits
 pub mod Label
 pub mod Members
 pub mod Counts

@@ -1,7 +1,8 @@
 -- Paths down a tree, each the places of edges from a node down, things at depths of a path, and the numbers and edges that lie on and beside it.
-use Rattle.std.specs.Prelude.{ℕ, zero, suc, ◌≡◌, ◌^◌, ◌<◌, ◌≤◌, List, [], ◌∷◌, ◌++◌, length, take, drop, slice_index_or}
+use Rattle.std.specs.Prelude.{ℕ, zero, suc, ◌≡◌, ◌<◌, ◌≤◌, List, [], ◌∷◌, ◌++◌, length, take, drop, slice_index_or}
 use Rattle.node_forest.specs.declared.kind.Kind.TheVariants.{Branch}
 use Rattle.node_forest.specs.Forest.{children}
+use Rattle.node_forest.specs.Limits.{length_limit}
 use Rattle.node_forest.specs.Label.{Node, number}
 
 -- the child at a place
@@ -22,7 +23,7 @@ Leads t (p ∷ ps) = (t.0.kind ≡ Branch) × (p < length (children t)) × Leads
 -- the nodes of the path below have lengths below the limit
 abbrev pub AreShort : Node → List ℕ → Type 0
 AreShort t [] = Unit {0}
-AreShort t (p ∷ ps) = ((child_of t p).0.length < 2 ^ 63) × AreShort (child_of t p) ps
+AreShort t (p ∷ ps) = ((child_of t p).0.length < length_limit) × AreShort (child_of t p) ps
 
 -- nothing lies deeper than what stands before it, and the first no deeper than this
 abbrev pub NeverDeeper : {C : Type 0} → ℕ → List (ℕ × C) → Type 0

@@ -1,7 +1,7 @@
 -- What a releaser's box was called with, and what the pool's rule sees of it.
 use Rattle.std.specs.Prelude.{◌≡◌, slice_index_or, ℕ, zero, suc, ◌+◌, List, [], ◌∷◌, ◌++◌, map, Option, Some, None}
 use Rattle.atomic_table.specs.Table.{Me}
-use Rattle.node_forest.specs.Label.{Node}
+use Rattle.node_forest.specs.Label.{Node, external_slot}
 use Rattle.pool_rule.specs.Notes.{use_of}
 use Rattle.pool_rule.specs.Pools.{Handed, Box, Terms}
 use Rattle.pool_rule.specs.Views.{View}
@@ -40,5 +40,5 @@ below (suc n) = below n ++ n ∷ []
 pub record IsCarried {S : Type 0} (boxes : List Handed) (seen : S → Option Box) (t : Node) (me : Me S View) : Type 0 where
   pub away : me.0.away ≡ use_of t ∷ []
   pub value : S
-  pub fresh : seen value ≡ Some (record { handed = slice_index_or boxes t.0.more (record { calls = 0; latest = None }); length = None })
-  pub carried : me.1 ≡ (t.0.more, value) ∷ []
+  pub fresh : seen value ≡ Some (record { handed = slice_index_or boxes (external_slot t.0) (record { calls = 0; latest = None }); length = None })
+  pub carried : me.1 ≡ ((external_slot t.0), value) ∷ []

@@ -2,6 +2,7 @@
 ghost use Rattle.std.specs.Prelude.{◌≡◌, ◌+◌, ◌<◌, ◌≤◌, [], ◌∷◌, length, IfOk, IfSome};
 ghost use Rattle.node_forest.specs.declared.kind.Kind.TheVariants as kinds;
 ghost use Rattle.node_forest.specs.Forest.{children};
+ghost use Rattle.node_forest.specs.Label.{flat_room};
 ghost use Rattle.node_edges.specs.Body.{flat_node};
 ghost use Rattle.node_edges.specs.Ways.{branches_down};
 ghost use Rattle.pool_rule.specs.Trades.{HasHolds, Trades};
@@ -84,7 +85,7 @@ fn filled<P: Naming>(
     requires few { length w.old.holds ≤ 256 }
     requires flat { (edge.old.0.kind ≡ kinds.Flat) × (edge.old.0.length ≤ 100) }
     requires leaf { children edge.old ≡ [] }
-    requires room { (1 ≤ length more.now) × (length more.now ≤ edge.old.0.more) × (length more.now ≤ 100) }
+    requires room { (1 ≤ length more.now) × (length more.now ≤ flat_room edge.old.0) × (length more.now ≤ 100) }
     ensures traded { IfSome result (λ _. Trades w.old.holds (edge.old ∷ []) (edge.new ∷ []) w.new.holds) }
     ensures leaf { IfSome result (λ _. children edge.new ≡ []) }
 {

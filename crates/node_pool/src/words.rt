@@ -2,7 +2,7 @@
 ghost use Rattle.std.specs.Prelude.{◌≡◌, ◌≢◌, ◌⊎◌, ℕ, List, ◌+◌, ◌<◌, ◌≤◌, [], ◌∷◌, length};
 ghost use Rattle.std.specs.Option.{option_map};
 ghost use Rattle.node_forest.specs.Forest.{children};
-ghost use Rattle.node_forest.specs.Label.{number};
+ghost use Rattle.node_forest.specs.Label.{number, external_slot};
 ghost use Rattle.node_forest.specs.Members.{Occurs};
 ghost use Rattle.node_forest.specs.declared.kind.Kind.TheVariants.{External};
 ghost use Rattle.count_core.specs.Holders.{Fitting};
@@ -31,7 +31,7 @@ impl<P: Naming, B: Releaser> Pool<P, B> {
         requires held { HasHolds w.old.holds (children T.node) }
         requires few { length (children T.node) ≤ 6 }
         requires room { length w.old.holds < 256 + length (children T.node) }
-        requires slot { T.node.0.kind ≡ External → (later : List ℕ) × (w.old.unused ≡ T.node.0.more ∷ later) }
+        requires slot { T.node.0.kind ≡ External → (later : List ℕ) × (w.old.unused ≡ external_slot T.node.0 ∷ later) }
         ensures tried { w.new ≡ tried result T.node w.old }
         ensures one_each { AreOneEach w.old.holds }
     {
@@ -103,7 +103,7 @@ impl<P: Naming, B: Releaser> Pool<P, B> {
     fn call_out(&self, mut seat: TokenSeat<B>, edge: &Edge, slot: usize) -> TokenSeat<B>
         requires table { seat.table_id ≡ P.table }
         requires worker { (0 < P.size) × (0 < seat.me.0.spare) }
-        requires slot { slot ≡ edge.now.0.more }
+        requires slot { slot ≡ external_slot edge.now.0 }
         requires carried { IsCarried P.boxes (option_map (λ o. box_of o.before o.latest o.length)) edge.now seat.me }
         ensures table { result.table_id ≡ P.table }
         ensures homed { result.me ≡ (homing seat.me.0, []) }

@@ -1,5 +1,5 @@
 -- All steps of a token on its table are the count rule's.
-use Rattle.std.proofs.Common.{◌≡◌, true, ℕ, ◌+◌, ◌-◌, List, [], ◌∷◌, ◌++◌, map, get_or, set, refl, ◌∙◌, sym, ap}
+use Rattle.std.proofs.Common.{◌≡◌, true, ℕ, ◌+◌, ◌-◌, List, [], ◌∷◌, ◌++◌, map, get_or, set, refl, ◌∙◌, sym, ap, arith}
 use Rattle.std.proofs.lemmas.List.{map-set, map-append}
 use mathlib.Core.Option.{some}
 use lib.ListN.{get_elem?}
@@ -13,7 +13,7 @@ use Rattle.pool_rule.specs.Rules.{holds_of, world, Ruled}
 use Rattle.pool_rule.specs.Steps.{AreCoreSteps, divided}
 use Rattle.pool_rule.proofs.Giving.{without_node-number}
 use Rattle.pool_rule.proofs.Hands.{hand_place, hand_does}
-use Rattle.pool_rule.proofs.Steps.{is_view, same_held, take_does, share_does, leave_does, look_does, counted_does, uncounted_does, idle_world}
+use Rattle.pool_rule.proofs.Steps.{is_view, same_held, take_does, refused_does, live_low, share_does, leave_does, look_does, counted_does, uncounted_does, idle_world}
 use Rattle.pool_rule.proofs.Tokens.{split_does, join_does}
 
 module _ {S : Type 0} (k : ℕ) (s : State S View) (id : ℕ) (v : View) (r : Ruled k s) (at : get_elem? s.views id ≡ some v) (c : List (ℕ × S)) where
@@ -39,7 +39,8 @@ module _ {S : Type 0} (k : ℕ) (s : State S View) (id : ℕ) (v : View) (r : Ru
     take = λ t l free held. take_does k s id v r at t c l free held;
     share = λ t small o. share_does k s id v r at t c (get_or s.words (number t) 0 + 1) small o refl;
     leave = λ t h. leave_does k s id v r at t (releasing (get_or s.words (number t) 0) t v) c (get_or s.words (number t) 0 - 1) refl h refl;
-    counted = λ w same low. counted_does k s id v r at w c same low;
+    refused = λ t l some_. refused_does k s id v r at t c l some_;
+    counted = λ w same. let low = live_low k s id v r at in counted_does k s id v r at w c same (omega arith);
     uncounted = λ w same some_. uncounted_does k s id v r at w c same some_;
     look = λ t w same o. look_does k s id v r at t w c same o;
     hire = λ room slots. split_does k id v s room slots at;

@@ -8,7 +8,7 @@ use Rattle.node_forest.specs.Counts.{first, times, edges_in}
 use Rattle.node_forest.proofs.Members.{in_split, root_occurs, below_in, nodes_trees, occurs_split, occurs_left, occurs_right, alone_out}
 use Rattle.node_forest.proofs.Counts.{first_cases, times_le}
 use Rattle.count_core.specs.Views.{without, without_all, passed_on, AreHeld}
-use Rattle.count_core.specs.Sound.{edge, holders_below}
+use Rattle.count_core.specs.SoundBelow.{edge, holders_below}
 use Rattle.count_core.proofs.Sums.{sum_le}
 use Rattle.node_forest.proofs.Counts.{first_found}
 use Rattle.pool_rule.specs.Rules.{Narrow}

@@ -11,7 +11,7 @@ use Rattle.node_forest.specs.Label.{Node, number}
 use Rattle.node_forest.specs.Members.{Occurs}
 use Rattle.node_forest.proofs.Counts.{times_some, first_cases}
 use Rattle.node_forest.proofs.Members.{root_occurs, child_occurs}
-use Rattle.count_core.specs.Sound.{sum_below, edge, holders_below}
+use Rattle.count_core.specs.SoundBelow.{sum_below, edge, holders_below}
 use Rattle.count_core.specs.Steps.{roots}
 use Rattle.count_core.proofs.Moves.{sound_of}
 use Rattle.count_core.proofs.Sums.{sum_some}

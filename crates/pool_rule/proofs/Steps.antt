@@ -1,5 +1,5 @@
 -- Each step of a token is a step of the count rule's world, and keeps the rule.
-use Rattle.std.proofs.Common.{◌≡◌, ◌≢◌, ◌⊎◌, inl, inr, ⊎_elim, ℕ, ◌+◌, ◌-◌, ◌*◌, ◌^◌, ◌<◌, ◌≤◌, true, List, [], ◌∷◌, ◌++◌, length, map, get_or, refl, sym, ◌∙◌, ap, subst, arith, set, length-set, get_or-set_other}
+use Rattle.std.proofs.Common.{◌≡◌, ◌≢◌, ◌⊎◌, inl, inr, ⊎_elim, ℕ, ◌+◌, ◌-◌, ◌*◌, ◌^◌, ◌<◌, ◌≤◌, true, false, List, [], ◌∷◌, ◌++◌, length, map, get_or, refl, sym, ◌∙◌, ap, subst, arith, set, length-set, get_or-set_other}
 use Rattle.std.specs.Prelude.{Option, Some, IsSome, option_to_list}
 use mathlib.Core.Option.{some}
 use lib.ListN.{get_elem?}
@@ -15,7 +15,7 @@ use Rattle.count_core.specs.Worlds.{IsSound}
 use Rattle.count_core.proofs.Around.{seen_occurs}
 use Rattle.count_core.proofs.Counting.{has_holder}
 use Rattle.count_core.proofs.Moves.{step_sound, sound_of}
-use Rattle.pool_rule.specs.Views.{View, taking, sharing, leaving, releasing}
+use Rattle.pool_rule.specs.Views.{View, taking, noting, sharing, leaving, releasing}
 use Rattle.pool_rule.specs.Rules.{holds_of, world, Among, IsTaken, IsSane, Ruled}
 use Rattle.pool_rule.proofs.Taken.{among_split, taken_set, full_set, used_set}
 use Rattle.pool_rule.proofs.Worlds.{at_lt, held_at, length-rooms, narrow-roots, rooms_set, passes_set, overs_set, spares_set, overs_le, sane_set, world_stepped, word_world, width_world, places_world, word_again, world_live}
@@ -138,6 +138,10 @@ module _ {S : Type 0} (k : ℕ) (s : State S View) (id : ℕ) (v : View) (r : Ru
   pub idle_world : (n m : ℕ) (w : View) (c : List (ℕ × S)) → n < k → m ≡ get_or s.words n 0 → w.holds ≡ v.holds → world k (stepped s n m id c w keeps) ≡ world k s
   idle_world n m w c l same holds =
       world_stepped k s id n m w c l ∙ word_again k s id v n m w.holds at l same holds
+
+  pub refused_does : (t : Node) (c : List (ℕ × S)) → number t < k → get_or s.words (number t) 0 ≢ 0
+      → Does (take id (number t) t) (world k s) false (world k (stepped s (number t) (get_or s.words (number t) 0) id c (noting (number t) v) keeps))
+  refused_does t c l some_ = (λ can. some_ (sym (word_world k s (number t) l) ∙ can.free), idle_world (number t) (get_or s.words (number t) 0) (noting (number t) v) c l refl refl)
 
   pub look_does : (t : Node) (w : View) (c : List (ℕ × S)) → w.holds ≡ v.holds → Occurs t v.holds
       → Does (look id (number t)) (world k s) true (world k (stepped s (number t) (get_or s.words (number t) 0) id c w keeps))

@@ -1,4 +1,5 @@
 -- The definitions of this crate.
+pub mod Limits
 pub mod Notes
 pub mod Views
 pub mod Rules

@@ -4,7 +4,7 @@ use Rattle.node_forest.specs.declared.kind.Kind.TheVariants.{External}
 use Rattle.pool_rule.specs.Pools.{Terms, IsFresh}
 use Rattle.atomic_table.specs.Table.{Me, rest}
 use Rattle.atomic_table.specs.Table as table
-use Rattle.node_forest.specs.Label.{Node, number}
+use Rattle.node_forest.specs.Label.{Node, number, external_slot}
 use Rattle.node_forest.specs.Members.{In, Occurs}
 use Rattle.count_core.specs.Holders.{Fitting}
 use Rattle.pool_rule.specs.Views.{View, tried, sharing, releasing, homing, looking}
@@ -44,7 +44,7 @@ pub record HasLeft {S : Type 0} (p : Terms S) (t : Node) (before : Me S View) (f
   pub one_each : AreOneEach before.0.holds
   pub gone : found ≡ 1 → Occurs t after.0.holds → ⊥
   pub plain : (found ≢ 1) ⊎ (t.0.kind ≢ External) → after.1 ≡ before.1
-  pub last : found ≡ 1 → t.0.kind ≡ External → (y : S) × IsFresh p t.0.more y × (after.1 ≡ (t.0.more, y) ∷ before.1)
+  pub last : found ≡ 1 → t.0.kind ≡ External → (y : S) × IsFresh p (external_slot t.0) y × (after.1 ≡ (external_slot t.0, y) ∷ before.1)
 
 -- the slot that was out is at home again
 pub record HasHomed {S : Type 0} (before after : Me S View) : Type 0 where

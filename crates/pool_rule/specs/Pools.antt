@@ -4,7 +4,7 @@ use Rattle.std.specs.Prelude.{Option as Maybe, Some, None, slice_index_or}
 use mathlib.Core.Option.{Option, none, some}
 use lib.ListN.{get_elem?}
 use Rattle.atomic_table.specs.Table.{State}
-use Rattle.node_forest.specs.Label.{Node, number}
+use Rattle.node_forest.specs.Label.{Node, number, external_slot}
 use Rattle.node_forest.specs.Forest.{children}
 use Rattle.node_forest.specs.Members.{In, Occurs}
 use Rattle.node_forest.specs.declared.kind.Kind.TheVariants.{External}
@@ -102,8 +102,10 @@ pub record IsWithin (all_made all_ended made ended : ℕ) (c : Count) : Type 0 w
 
 pub record Tallied (word : ℕ) (views : List View) : Type 0 where
   pub live : word + sum_by ended_by views ≡ sum_by made_by views
-  pub own : (id : ℕ) (v : View) → get_elem? views id ≡ some v → (c : Count) → Member c v.counts → IsWithin (sum_by made_by views) (sum_by ended_by views) v.made v.ended c
-  pub joined : (id : ℕ) (v : View) → get_elem? views id ≡ some v → (t : Tally) → Member t v.joined → (c : Count) → Member c t.counts → IsWithin (sum_by made_by views) (sum_by ended_by views) t.made t.ended c
+  pub own : (id : ℕ) (v : View) → get_elem? views id ≡ some v → (c : Count) → Member c v.counts
+      → IsWithin (sum_by made_by views) (sum_by ended_by views) v.made v.ended c
+  pub joined : (id : ℕ) (v : View) → get_elem? views id ≡ some v → (t : Tally) → Member t v.joined → (c : Count) → Member c t.counts
+      → IsWithin (sum_by made_by views) (sum_by ended_by views) t.made t.ended c
 
 -- ---- releaser slots
 abbrev pub slot_of : Use → ℕ
@@ -147,7 +149,8 @@ pub record Slotted {S : Type 0} (p : Terms S) (words : List ℕ) (homes : List (
   pub single : (j : ℕ) → sum_by (away_times j) views ≤ 1
   -- an unused slot, and that of an external in a tree, are at home, and their box wasn't called
   pub unused : (j : ℕ) → Has unused_of j views → IsHome (IsFresh p j) homes j
-  pub external : (x : Node) → Occurs x roots → x.0.kind ≡ External → IsHome (IsFresh p x.0.more) homes x.0.more × Has used_of (use_of x) views
+  pub external : (x : Node) → Occurs x roots → x.0.kind ≡ External
+      → IsHome (IsFresh p (external_slot x.0)) homes (external_slot x.0) × Has used_of (use_of x) views
   -- a slot that isn't at home is out with a token, whose external used it
   pub out : (j : ℕ) → get_elem? homes j ≡ some none → (u : Use) × Has away_of u views × (u.slot ≡ j)
   pub gone : (u : Use) → Has away_of u views → (get_elem? homes u.slot ≡ some none) × Has used_of u views

@@ -1,6 +1,6 @@
 -- What holds of the pool's table between any two steps: its words, its word of live passes and the holds of its tokens are a world in which each
 -- word is the number of its holders.
-use Rattle.std.specs.Prelude.{◌≡◌, ◌≢◌, ◌⊎◌, ℕ, ◌+◌, ◌^◌, ◌<◌, ◌≤◌, List, [], ◌∷◌, length, map, take, slice_index}
+use Rattle.std.specs.Prelude.{◌≡◌, ◌≢◌, ◌⊎◌, ℕ, ◌+◌, ◌<◌, ◌≤◌, List, [], ◌∷◌, length, map, take, slice_index}
 use mathlib.Core.Option.{some}
 use lib.ListN.{get_elem?}
 use Rattle.atomic_table.specs.Table.{State}
@@ -9,6 +9,8 @@ use Rattle.node_forest.specs.Label.{Node}
 use Rattle.node_forest.specs.Members.{Occurs}
 use Rattle.count_core.specs.Steps as core
 use Rattle.count_core.specs.Worlds.{IsSound}
+use Rattle.node_forest.specs.Limits.{most_edges}
+use Rattle.pool_rule.specs.Limits.{most_holds, most_passes, most_workers}
 use Rattle.pool_rule.specs.Views.{View}
 
 abbrev pub holds_of : View → List Node
@@ -35,17 +37,17 @@ abbrev pub spares : List View → ℕ
 spares [] = 0
 spares (v ∷ vs) = v.spare + spares vs
 
--- no node in the trees has more than 6 edges
+-- no node in the trees has more edges than a node may have
 abbrev pub Narrow : List Node → Type 0
-Narrow trees = (t : Node) → Occurs t trees → length (children t) ≤ 6
+Narrow trees = (t : Node) → Occurs t trees → length (children t) ≤ most_edges
 
--- a token knows how many numbers there are, has room for its holds, holds no node with more than 6 edges, and has no more passes that
+-- a token knows how many numbers there are, has room for its holds, holds no node with more edges than a node may have, and has no more passes that
 -- found the limit reached than it may
 pub record IsSane (k : ℕ) (v : View) : Type 0 where
   pub size : v.size ≡ k
   pub roomy : length v.holds ≤ v.room
   pub narrow : Narrow v.holds
-  pub limited : v.limit ≤ 2 ^ 18
+  pub limited : v.limit ≤ most_passes
   pub fewer : v.over ≤ v.spare
 
 abbrev pub AreSane : ℕ → List View → Type 0
@@ -77,11 +79,11 @@ pub record Ruled {S : Type 0} (k : ℕ) (s : State S View) : Type 0 where
   pub sound : IsSound (world k s)
   pub sane : AreSane k s.views
   -- all room is shared out among the tokens; each live pass brings room for one hold
-  pub rooms : rooms s.views ≡ 2 ^ 24 + slice_index s.words k
+  pub rooms : rooms s.views ≡ most_holds + slice_index s.words k
   -- each live pass is some token's
   pub live : slice_index s.words k ≡ passes s.views
   -- passes above the limit are to be taken back, and there are few of these
-  pub low : slice_index s.words k ≤ 2 ^ 18 + overs s.views
-  pub spares : spares s.views ≤ 64
+  pub low : slice_index s.words k ≤ most_passes + overs s.views
+  pub spares : spares s.views ≤ most_workers
   pub used : (n : ℕ) → n < k → slice_index s.words n ≢ 0 → IsTaken n s.views
   pub full : (n : ℕ) → IsFull n s.views → IsTaken n s.views

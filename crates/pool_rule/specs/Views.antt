@@ -10,37 +10,29 @@ use Rattle.count_core.specs.Views.{without, without_all, passed_on}
 use Rattle.pool_rule.specs.Notes.{Count, Look, Use, Tally, lone_but, unused_after, uses_of, coded_count, coded_look, coded_use, coded_tally}
 
 pub record View : Type 0 where
-  -- its direct holds, in order
+  -- what it holds: its direct holds, in order, how many it may have, and how many numbers the pool has
   pub holds : List Node
-  -- how many direct holds it may have
   pub room : ℕ
-  -- how many numbers the pool has
   pub size : ℕ
-  -- the numbers that it ever took
+  -- its numbers: those that it ever took, those that its takes found not 0, and those that its last leaves returned, which found the word 1
   pub taken : List ℕ
-  -- the numbers that its takes found not 0
   pub full : List ℕ
-  -- the numbers that its last leaves returned, which found the word 1
   pub returned : List ℕ
-  -- the live passes that are its own
+  -- its passes: the live ones that are its own, the most that there should be, how many of its own found that many, and how many may at once
   pub passes : ℕ
-  -- the most live passes that there should be
   pub limit : ℕ
-  -- how many of its passes found the limit reached, and how many may at once
   pub over : ℕ
   pub spare : ℕ
-  -- how many counted and uncounted steps it made, and what its counted steps found
+  -- its counting: how many counted and uncounted steps it made, what its counted steps found, and the same of tokens that were joined to it
   pub made : ℕ
   pub ended : ℕ
   pub counts : List Count
-  -- the same of tokens that were joined to it at the end
   pub joined : List Tally
-  -- how many shares it made, and its looks that answered no
+  -- its looks: how many shares it made, the looks that answered no, and the numbers whose word is 1 and that no other token's trees have
   pub shares : ℕ
   pub looks : List Look
-  -- the numbers whose word is 1 and that no other token's trees have
   pub lone : List ℕ
-  -- the releaser slots that it may still use, those that its externals used, and the one that is out with it
+  -- its releaser slots: those that it may still use, those that its externals used, and the one that is out with it
   pub unused : List ℕ
   pub used : List Use
   pub away : List Use
@@ -80,7 +72,12 @@ with_holds v holds = record v { holds = holds }
 
 -- after a take that found 0: the tree's edges were direct holds, and the tree is one now; an external uses a slot
 abbrev pub taking : Node → View → View
-taking t v = record v { holds = without_all (children t) v.holds ++ t ∷ []; taken = v.taken ++ number t ∷ []; unused = unused_after t.0.kind v.unused; used = v.used ++ uses_of t.0.kind t }
+taking t v = record v {
+  holds = without_all (children t) v.holds ++ t ∷ [];
+  taken = v.taken ++ number t ∷ [];
+  unused = unused_after t.0.kind v.unused;
+  used = v.used ++ uses_of t.0.kind t;
+}
 
 -- after a take that found the number in use
 abbrev pub noting : ℕ → View → View
@@ -100,7 +97,11 @@ returned_by found t = if found == 1 then number t ∷ [] else []
 
 -- after a leave that found this word
 abbrev pub leaving : ℕ → Node → View → View
-leaving found t v = record v { holds = without (number t) v.holds ++ passed_on found (Some t); returned = v.returned ++ returned_by found t; lone = lone_but (t ∷ []) v.lone }
+leaving found t v = record v {
+  holds = without (number t) v.holds ++ passed_on found (Some t);
+  returned = v.returned ++ returned_by found t;
+  lone = lone_but (t ∷ []) v.lone;
+}
 
 -- the same where the slot of an external is out until its box was called
 abbrev pub releasing : ℕ → Node → View → View
@@ -199,9 +200,76 @@ merged v w = record v {
 abbrev pub spent : View → View
 spent w = blank 0 w.size w.limit 0
 
+-- ---- a view as ghost data, in the groups of its fields
+abbrev Holding : Type 0
+Holding = List Node × (ℕ × ℕ)
+
+abbrev Numbers : Type 0
+Numbers = List ℕ × (List ℕ × List ℕ)
+
+abbrev Passes : Type 0
+Passes = ℕ × (ℕ × (ℕ × ℕ))
+
+abbrev Counting : Type 0
+Counting = ℕ × (ℕ × (List Count × List Tally))
+
+abbrev Looking : Type 0
+Looking = ℕ × (List Look × List ℕ)
+
+abbrev Slots : Type 0
+Slots = List ℕ × (List Use × List Use)
+
+abbrev Groups : Type 0
+Groups = Holding × (Numbers × (Passes × (Counting × (Looking × Slots))))
+
+abbrev coded_numbers : Coded Numbers
+coded_numbers = coded× (coded_list coded_ℕ) (coded× (coded_list coded_ℕ) (coded_list coded_ℕ))
+
+abbrev coded_groups : Coded Groups
+coded_groups =
+    coded× (coded× (coded_list coded_node) (coded× coded_ℕ coded_ℕ))
+    (coded× coded_numbers
+    (coded× (coded× coded_ℕ (coded× coded_ℕ (coded× coded_ℕ coded_ℕ)))
+    (coded× (coded× coded_ℕ (coded× coded_ℕ (coded× (coded_list coded_count) (coded_list coded_tally))))
+    (coded× (coded× coded_ℕ (coded× (coded_list coded_look) (coded_list coded_ℕ)))
+    (coded× (coded_list coded_ℕ) (coded× (coded_list coded_use) (coded_list coded_use)))))))
+
+abbrev groups_of : View → Groups
+groups_of v = (
+  (v.holds, (v.room, v.size)),
+  (
+    (v.taken, (v.full, v.returned)),
+    ((v.passes, (v.limit, (v.over, v.spare))), ((v.made, (v.ended, (v.counts, v.joined))), ((v.shares, (v.looks, v.lone)), (v.unused, (v.used, v.away))))),
+  ),
+)
+
+abbrev view_in : Holding → Numbers → Passes → Counting → Looking → Slots → View
+view_in h n p c l s = record {
+  holds = h.0;
+  room = h.1.0;
+  size = h.1.1;
+  taken = n.0;
+  full = n.1.0;
+  returned = n.1.1;
+  passes = p.0;
+  limit = p.1.0;
+  over = p.1.1.0;
+  spare = p.1.1.1;
+  made = c.0;
+  ended = c.1.0;
+  counts = c.1.1.0;
+  joined = c.1.1.1;
+  shares = l.0;
+  looks = l.1.0;
+  lone = l.1.1;
+  unused = s.0;
+  used = s.1.0;
+  away = s.1.1;
+}
+
+-- views with the same groups are the same
+pub one_view : (v w : View) → groups_of v ≡ groups_of w → v ≡ w
+one_view v w e i = view_in (e i).0 (e i).1.0 (e i).1.1.0 (e i).1.1.1.0 (e i).1.1.1.1.0 (e i).1.1.1.1.1
+
 abbrev pub coded_view : Coded View
-coded_view =
-    coded_via
-    (coded× (coded_list coded_node) (coded× coded_ℕ (coded× coded_ℕ (coded× (coded_list coded_ℕ) (coded× (coded_list coded_ℕ) (coded× coded_ℕ (coded× coded_ℕ (coded× coded_ℕ (coded× coded_ℕ (coded× coded_ℕ (coded× coded_ℕ (coded× (coded_list coded_count) (coded× (coded_list coded_tally) (coded× coded_ℕ (coded× (coded_list coded_look) (coded× (coded_list coded_ℕ) (coded× (coded_list coded_ℕ) (coded× (coded_list coded_use) (coded× (coded_list coded_use) (coded_list coded_ℕ))))))))))))))))))))
-    (λ (v : View). (v.holds, (v.room, (v.size, (v.taken, (v.full, (v.passes, (v.limit, (v.over, (v.spare, (v.made, (v.ended, (v.counts, (v.joined, (v.shares, (v.looks, (v.lone, (v.unused, (v.used, (v.away, v.returned))))))))))))))))))))
-    (λ x y e i. record { holds = (e i).0; room = (e i).1.0; size = (e i).1.1.0; taken = (e i).1.1.1.0; full = (e i).1.1.1.1.0; passes = (e i).1.1.1.1.1.0; limit = (e i).1.1.1.1.1.1.0; over = (e i).1.1.1.1.1.1.1.0; spare = (e i).1.1.1.1.1.1.1.1.0; made = (e i).1.1.1.1.1.1.1.1.1.0; ended = (e i).1.1.1.1.1.1.1.1.1.1.0; counts = (e i).1.1.1.1.1.1.1.1.1.1.1.0; joined = (e i).1.1.1.1.1.1.1.1.1.1.1.1.0; shares = (e i).1.1.1.1.1.1.1.1.1.1.1.1.1.0; looks = (e i).1.1.1.1.1.1.1.1.1.1.1.1.1.1.0; lone = (e i).1.1.1.1.1.1.1.1.1.1.1.1.1.1.1.0; unused = (e i).1.1.1.1.1.1.1.1.1.1.1.1.1.1.1.1.0; used = (e i).1.1.1.1.1.1.1.1.1.1.1.1.1.1.1.1.1.0; away = (e i).1.1.1.1.1.1.1.1.1.1.1.1.1.1.1.1.1.1.0; returned = (e i).1.1.1.1.1.1.1.1.1.1.1.1.1.1.1.1.1.1.1 })
+coded_view = coded_via coded_groups groups_of one_view

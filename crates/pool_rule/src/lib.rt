@@ -16,5 +16,6 @@ pub use laws::{
     held_numbers_are_in_use, idle_pools_are_empty, numbers_in_use_are_held, passes_keep_the_rule,
     pools_start_ruled, steps_are_the_count_rules, steps_keep_the_rule, tokens_divide,
     weights_tell_holds, whole_tokens_know_all_boxes, whole_tokens_know_all_steps,
+    worlds_are_the_tables,
 };
 pub use marks::{marks_are_the_count_rules, marks_keep_the_rule};

@@ -7,6 +7,7 @@ use crate::laws::{
     held_numbers_are_in_use, idle_pools_are_empty, numbers_in_use_are_held, passes_keep_the_rule,
     pools_start_ruled, steps_are_the_count_rules, steps_keep_the_rule, tokens_divide,
     weights_tell_holds, whole_tokens_know_all_boxes, whole_tokens_know_all_steps,
+    worlds_are_the_tables,
 };
 use crate::marks::{marks_are_the_count_rules, marks_keep_the_rule};
 
@@ -14,6 +15,7 @@ use crate::marks::{marks_are_the_count_rules, marks_keep_the_rule};
 fn laws_hold_of_slots_of_a_type(_rt: HostRuntime) {
     pools_start_ruled::<Option<u64>>();
     steps_are_the_count_rules::<Option<u64>>();
+    worlds_are_the_tables::<Option<u64>>();
     steps_keep_the_rule::<Option<u64>>();
     tokens_divide::<Option<u64>>();
     idle_pools_are_empty::<Option<u64>>();

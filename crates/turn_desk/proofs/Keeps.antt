@@ -1,5 +1,6 @@
 -- Each step of a desk keeps its rule.
 use Rattle.std.proofs.Common.{◌≡◌, ◌≢◌, ℕ, zero, suc, ◌<◌, eqb, cond, List, [], ◌∷◌, ◌++◌, map, length, get_or, set, sym, refl, ap, ◌∙◌, subst, ⊎_elim, arith, eq-eqb, ne_eqb, Option, Some, None}
+use Rattle.std.proofs.lemmas.List.{length-map}
 use mathlib.Core.Logic.{dite}
 use mathlib.Core.Option.{none, some, some-injective}
 use mathlib.Core.List.{map-append}
@@ -22,10 +23,6 @@ pub there : {A : Type 0} (xs : List A) (i : ℕ) → i < length xs → (a : A) �
 there [] i h = absurd (omega arith)
 there (x ∷ xs) zero h = (x, refl)
 there (x ∷ xs) (suc i) h = there xs i (omega arith)
-
-pub length_mapped : {A B : Type 0} (f : A → B) (xs : List A) → length (map f xs) ≡ length xs
-length_mapped f [] = refl
-length_mapped f (x ∷ xs) = ap suc (length_mapped f xs)
 
 pub some_inside : {A : Type 0} (xs : List A) (i : ℕ) (a : A) → get_elem? xs i ≡ some a → i < length xs
 some_inside [] i a e = absurd (cc)
@@ -126,7 +123,7 @@ module _ {X V : Type 0} (agrees : List (Spot X) → List (Option V) → Type 0) 
 
   place : (s : S) (r : Kept agrees s) (slots l : ℕ) → length s.homes ≡ slots → l < slots → (x : Spot X) × (get_elem? r.spots l ≡ some x) × (get_or s.words l 0 ≡ word_of x)
   place s r slots l long inside =
-      let same : length s.homes ≡ length r.spots = ap length r.homes ∙ length_mapped slot_of r.spots in
+      let same : length s.homes ≡ length r.spots = ap length r.homes ∙ length-map r.spots slot_of in
       let t = there r.spots l (omega arith) in
       (t.0, t.1, subst (λ (ws : List ℕ). get_or ws l 0 ≡ word_of t.0) (sym r.words) (at_get (map word_of r.spots) l (word_of t.0) (at_map word_of r.spots l t.0 t.1)))
 

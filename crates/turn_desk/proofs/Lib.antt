@@ -1,3 +1,4 @@
+-- The lemmas of this crate.
 pub mod Closing
 pub mod Keeps
 pub mod Starting

@@ -1,3 +1,4 @@
+-- The definitions of this crate.
 pub mod Agreements
 pub mod Passes
 pub mod Spots

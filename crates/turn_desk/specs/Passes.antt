@@ -6,7 +6,9 @@ use Rattle.atomic_table.specs.declared.shared.Seat.{Seat}
 use Rattle.turn_desk.specs.declared.desk.Desk.{Desk}
 use Rattle.turn_desk.specs.declared.knowledge.Knowledge.{Knowledge}
 use Rattle.turn_desk.specs.declared.knowledge.Held.TheVariants.{Nothing, Turn}
+use Rattle.turn_desk.specs.declared.turn.TakenOut.{TakenOut}
 use Rattle.turn_desk.specs.Spots.{Spot, out, at_home}
+use Rattle.turn_desk.specs.Turns.{turn_place, turn_value, taken_value}
 
 -- how many values a desk has
 abbrev pub desk_places : {T X V A : Type 0} → Desk T X V A → ℕ
@@ -29,9 +31,13 @@ module _ {X V : Type 0} where
   abbrev pub IsIdle : Seat (Option X) (Knowledge X V) → Type 0
   IsIdle p = (p.me.0.held ≡ Nothing) × (p.me.1 ≡ [])
 
-  -- a pass that has the turn of place l, where x was taken out
+  -- a pass that has the turn of a place, where this value was taken out
   abbrev pub HasTurn : Seat (Option X) (Knowledge X V) → ℕ → X → Type 0
-  HasTurn p l x = (l < p.table_id.slots) × (p.me.0.held ≡ Turn l x) × (p.me.1 ≡ (l, None) ∷ [])
+  HasTurn p place value = (place < p.table_id.slots) × (p.me.0.held ≡ Turn place value) × (p.me.1 ≡ (place, None) ∷ [])
+
+  -- the turn of a place, as it was taken out, which the pass has
+  abbrev pub IsTurnOf : ℕ → Seat (Option X) (Knowledge X V) → TakenOut X → Type 0
+  IsTurnOf place p turn = (turn_place turn ≡ place) × (turn_value turn ≡ taken_value turn) × HasTurn p place (taken_value turn)
 
   -- the last state: these values were at home, and each other one was out with a pass other than this
   pub record Ended (agrees : List (Spot X) → List (Option V) → Type 0) (p : Seat (Option X) (Knowledge X V)) (values : List (Option X)) : Type 0 where
@@ -40,4 +46,5 @@ module _ {X V : Type 0} where
     pub agreed : agrees spots views
     pub mine : get_elem? views p.id ≡ some (Some (desk_view p))
     pub given : values ≡ map at_home spots
-    pub others : (l : ℕ) (x : X) → get_elem? spots l ≡ some (out x) → (by : ℕ) × (v : V) × (by ≢ p.id) × (get_elem? views by ≡ some (Some v))
+    pub others : (place : ℕ) (value : X) → get_elem? spots place ≡ some (out value)
+        → (by : ℕ) × (view : V) × (by ≢ p.id) × (get_elem? views by ≡ some (Some view))

@@ -26,20 +26,20 @@ module _ {X : Type 0} where
   abbrev pub Holds : List (Spot X) → (ℕ → ℕ) → ℕ → Held X → Type 0
   Holds spots owner by Nothing = Unit {0}
   Holds spots owner by Gone = Unit {0}
-  Holds spots owner by (Turn l x) = (get_elem? spots l ≡ some (out x)) × (owner l ≡ by)
+  Holds spots owner by (Turn place value) = (get_elem? spots place ≡ some (out value)) × (owner place ≡ by)
 
 module _ {X V : Type 0} where
   abbrev pub knowledge_of : Held X → V → Past V → Knowledge X V
-  knowledge_of h v p = record { held = h; view = v; past = p }
+  knowledge_of held view past = record { held = held; view = view; past = past }
 
   -- a pass that has no turn, and was neither divided nor joined
   abbrev pub idle : V → Knowledge X V
-  idle v = knowledge_of Nothing v Fresh
+  idle view = knowledge_of Nothing view Fresh
 
   abbrev pub seen_as : Held X → V → Option V
-  seen_as Nothing v = Some v
-  seen_as (Turn l x) v = Some v
-  seen_as Gone v = None
+  seen_as Nothing view = Some view
+  seen_as (Turn place value) view = Some view
+  seen_as Gone view = None
 
   -- what the desk's rule sees of a seat
   abbrev pub seen : Knowledge X V → Option V
@@ -48,15 +48,16 @@ module _ {X V : Type 0} where
   -- what was so at the last split or merge
   abbrev pub Was : (List (Spot X) → List (Option V) → Type 0) → Past V → Type 0
   Was agrees Fresh = Unit {0}
-  Was agrees (Cut v) = AgreedOnce agrees v
-  Was agrees (Joined v w) = AgreedBoth agrees v w
+  Was agrees (Cut view) = AgreedOnce agrees view
+  Was agrees (Joined view second) = AgreedBoth agrees view second
 
   pub record Kept (agrees : List (Spot X) → List (Option V) → Type 0) (s : State (Option X) (Knowledge X V)) : Type 0 where
     pub spots : List (Spot X)
     pub owner : ℕ → ℕ
     pub words : s.words ≡ map word_of spots
     pub homes : s.homes ≡ map slot_of spots
-    pub each : (by : ℕ) (d : Knowledge X V) → get_elem? s.views by ≡ some d → Holds spots owner by d.held
-    pub holder : (l : ℕ) (x : X) → get_elem? spots l ≡ some (out x) → (by : ℕ) × (d : Knowledge X V) × (get_elem? s.views by ≡ some d) × (d.held ≡ Turn l x)
-    pub past : (by : ℕ) (d : Knowledge X V) → get_elem? s.views by ≡ some d → Was agrees d.past
+    pub each : (by : ℕ) (known : Knowledge X V) → get_elem? s.views by ≡ some known → Holds spots owner by known.held
+    pub holder : (place : ℕ) (value : X) → get_elem? spots place ≡ some (out value)
+        → (by : ℕ) × (known : Knowledge X V) × (get_elem? s.views by ≡ some known) × (known.held ≡ Turn place value)
+    pub past : (by : ℕ) (known : Knowledge X V) → get_elem? s.views by ≡ some known → Was agrees known.past
     pub agreed : agrees spots (map seen s.views)

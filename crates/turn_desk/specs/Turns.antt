@@ -4,14 +4,14 @@ use Rattle.turn_desk.specs.declared.turn.TakenOut.{TakenOut}
 
 module _ {X : Type 0} where
   abbrev pub turn_place : TakenOut X → ℕ
-  turn_place t = t.place
+  turn_place turn = turn.place
 
   abbrev pub turn_value : TakenOut X → X
-  turn_value t = t.value
+  turn_value turn = turn.value
 
   abbrev pub taken_value : TakenOut X → X
-  taken_value t = t.taken.value
+  taken_value turn = turn.taken.value
 
   -- the same turn with this value
   abbrev pub with_value : TakenOut X → X → TakenOut X
-  with_value t x = record t { value = x }
+  with_value turn value = record turn { value = value }

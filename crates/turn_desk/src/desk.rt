@@ -47,47 +47,49 @@ pub struct Busy {
 
 impl<T: DeskRule> Desk<T> {
     ghost use Rattle.turn_desk.specs.Agreements.{Agreed, AgreedOnce, AgreedBoth, AgreedOut};
-    ghost use Rattle.turn_desk.specs.Passes.{desk_places, desk_view, IsOf, IsSamePass, IsIdle, HasTurn};
+    ghost use Rattle.turn_desk.specs.Passes.{desk_places, desk_view, IsOf, IsSamePass, IsIdle, HasTurn, IsTurnOf};
     ghost use Rattle.turn_desk.specs.Spots.{home, out};
     ghost use Rattle.turn_desk.specs.Turns.{turn_place, turn_value, taken_value};
 
-    /// Takes the turn of value `l`, if it is free.
-    pub fn try_enter(&self, pass: &mut DeskPass<T>, l: usize) -> Result<Turn<T>, Busy>
+    /// Takes the turn of the value at this place, if it is free.
+    pub fn try_enter(&self, pass: &mut DeskPass<T>, place: usize) -> Result<Turn<T>, Busy>
         requires desk { IsOf self.now pass.old }
-        requires place { l < desk_places self.now }
+        requires place { place < desk_places self.now }
         requires idle { IsIdle pass.old }
         ensures pass { IsSamePass pass.old pass.new × (desk_view pass.new ≡ desk_view pass.old) }
-        ensures turn { MatchResult result (λ t. (turn_place t ≡ l) × (turn_value t ≡ taken_value t) × HasTurn pass.new l (taken_value t)) (λ b. (b.found ≡ 1) × IsIdle pass.new) }
-        ensures agreed { MatchResult result (λ t. Agreed T.agrees l (home (taken_value t)) (desk_view pass.old)) (λ _. AgreedOut T.agrees l (desk_view pass.old)) }
+        ensures turn { MatchResult result (λ turn. IsTurnOf place pass.new turn) (λ busy. (busy.found ≡ 1) × IsIdle pass.new) }
+        ensures agreed { MatchResult result
+            (λ turn. Agreed T.agrees place (home (taken_value turn)) (desk_view pass.old))
+            (λ _. AgreedOut T.agrees place (desk_view pass.old)) }
     {
         let found = self
             .table
             .shared
-            .compare_exchange::<Entering<T>>(pass, l, 0, 1);
+            .compare_exchange::<Entering<T>>(pass, place, 0, 1);
         if found != 0 {
             return Err(Busy { found });
         }
-        let value = self.table.shared.exchange(pass, l, None).unwrap();
+        let value = self.table.shared.exchange(pass, place, None).unwrap();
         let taken = Snapshot::of(&value);
         Ok(TakenOut {
-            place: l,
+            place,
             value,
             taken,
         })
     }
 
-    /// Waits for the turn of value `l`. A thread that waits for long sleeps until a turn of this value is left.
-    pub fn enter<R: Wait>(&self, rt: &R, pass: &mut DeskPass<T>, l: usize) -> Turn<T>
+    /// Waits for the turn of the value at this place. A thread that waits for long sleeps until a turn of this value is left.
+    pub fn enter<R: Wait>(&self, rt: &R, pass: &mut DeskPass<T>, place: usize) -> Turn<T>
         requires desk { IsOf self.now pass.old }
-        requires place { l < desk_places self.now }
+        requires place { place < desk_places self.now }
         requires idle { IsIdle pass.old }
         ensures pass { IsSamePass pass.old pass.new × (desk_view pass.new ≡ desk_view pass.old) }
-        ensures turn { (turn_place result ≡ l) × (turn_value result ≡ taken_value result) × HasTurn pass.new l (taken_value result) }
-        ensures agreed { Agreed T.agrees l (home (taken_value result)) (desk_view pass.old) }
+        ensures turn { IsTurnOf place pass.new result }
+        ensures agreed { Agreed T.agrees place (home (taken_value result)) (desk_view pass.old) }
     {
         let mut patience = PATIENCE;
         for _ in rt.forever() {
-            match self.try_enter(pass, l) {
+            match self.try_enter(pass, place) {
                 Ok(turn) => return turn,
                 Err(_) if patience > 0 => {
                     patience -= 1;
@@ -95,7 +97,7 @@ impl<T: DeskRule> Desk<T> {
                 }
                 Err(_) => {
                     self.sleepers.fetch_add(1, Ordering::SeqCst);
-                    self.table.shared.park(rt, l, 1);
+                    self.table.shared.park(rt, place, 1);
                     self.sleepers.fetch_sub(1, Ordering::SeqCst);
                 }
             }

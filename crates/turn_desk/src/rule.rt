@@ -33,14 +33,21 @@ pub trait DeskRule {
     ghost merges: { Self.View → Self.View → Self.View → Type 0 };
 
     // A value is taken out.
-    ghost taking_agrees: { (spots : List (Spot Self.Value)) (views : List (Option Self.View)) (l : ℕ) (x : Self.Value) → agrees spots views → get_elem? spots l ≡ some (home x) → agrees (slice_set spots l (out x)) views };
+    ghost taking_agrees: { (spots : List (Spot Self.Value)) (views : List (Option Self.View)) (place : ℕ) (value : Self.Value) →
+        agrees spots views → get_elem? spots place ≡ some (home value) → agrees (slice_set spots place (out value)) views };
 
     // A value is given back.
-    ghost leaving_agrees: { (spots : List (Spot Self.Value)) (views : List (Option Self.View)) (l by : ℕ) (x y : Self.Value) (v w : Self.View) → agrees spots views → get_elem? spots l ≡ some (out x) → get_elem? views by ≡ some (Some v) → leaves l x y v w → agrees (slice_set spots l (home y)) (slice_set views by (Some w)) };
+    ghost leaving_agrees: { (spots : List (Spot Self.Value)) (views : List (Option Self.View)) (place by : ℕ) (taken given : Self.Value) (before after : Self.View) →
+        agrees spots views → get_elem? spots place ≡ some (out taken) → get_elem? views by ≡ some (Some before) → leaves place taken given before after →
+        agrees (slice_set spots place (home given)) (slice_set views by (Some after)) };
 
     // The pass `by` is divided, and its second part stands last.
-    ghost split_agrees: { (spots : List (Spot Self.Value)) (views : List (Option Self.View)) (by : ℕ) (v left right : Self.View) → agrees spots views → get_elem? views by ≡ some (Some v) → splits v left right → agrees spots (slice_set views by (Some left) ++ Some right ∷ []) };
+    ghost split_agrees: { (spots : List (Spot Self.Value)) (views : List (Option Self.View)) (by : ℕ) (view left right : Self.View) →
+        agrees spots views → get_elem? views by ≡ some (Some view) → splits view left right →
+        agrees spots (slice_set views by (Some left) ++ Some right ∷ []) };
 
     // The pass `other` is joined to the pass `by`.
-    ghost merge_agrees: { (spots : List (Spot Self.Value)) (views : List (Option Self.View)) (by other : ℕ) (v w both : Self.View) → agrees spots views → get_elem? views by ≡ some (Some v) → ¬ (other ≡ by) → get_elem? views other ≡ some (Some w) → merges v w both → agrees spots (slice_set (slice_set views by (Some both)) other None) };
+    ghost merge_agrees: { (spots : List (Spot Self.Value)) (views : List (Option Self.View)) (by other : ℕ) (view second both : Self.View) →
+        agrees spots views → get_elem? views by ≡ some (Some view) → ¬ (other ≡ by) → get_elem? views other ≡ some (Some second) → merges view second both →
+        agrees spots (slice_set (slice_set views by (Some both)) other None) };
 }

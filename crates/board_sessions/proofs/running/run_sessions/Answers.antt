@@ -1,5 +1,6 @@
 -- The chairs are seated, run, gathered, and their books and history are a plain run.
 use Rattle.std.proofs.Common.{rules, arith, ◌≡◌, ◌+◌, ◌<◌, ◌≤◌, ℕ, List, ◌∷◌, ◌++◌, [], get_or, length, map, drop, refl, sym, ap, ◌∙◌, subst, true, false, Option, Some, None}
+use Rattle.std.proofs.lemmas.List.{length-map}
 use Rattle.std.specs.Prelude.{IfSome}
 use Rattle.plain_cord.specs.declared.reply.Book.{Book}
 use Rattle.cord_board.specs.Passes.{board_view}
@@ -11,7 +12,7 @@ use Rattle.board_sessions.specs.declared.board_cord.BoardCord.{BoardCord}
 use Rattle.board_sessions.specs.Boarding.{state_in, IsBookAlone}
 use Rattle.board_sessions.specs.Chairs.{Starts, Ends}
 use Rattle.board_sessions.proofs.Lists.{is_below, whole_slice}
-use Rattle.board_sessions.proofs.Whole.{length_in, length_mapped, get_mapped, whole}
+use Rattle.board_sessions.proofs.Whole.{length_in, get_mapped, whole}
 use Rattle.board_sessions.proofs.running.run_sessions.Goals as goal
 
 pub run_all-requires-clause-starts : goal.run_all-requires-clause-starts
@@ -40,7 +41,7 @@ returns-in-Some g c =
     let found = c.gather-found.result.items in
     let each : found ≡ map (λ book. Some book) books = c.in-Some.ensures in
     let len = c.gather-found.ensures.len in
-    let count : length books ≡ length sessions = sym (length_mapped (λ (book : Book). Some book) books) ∙ (ap length (sym each) ∙ len) in
+    let count : length books ≡ length sessions = sym (length-map books (λ (book : Book). Some book)) ∙ (ap length (sym each) ∙ len) in
     let kept = c.clear_cells.ensures.same in
     let told = subst (λ (z : List ℕ × List (ℕ × List (Deed BoardCord))). IsHistory length_in history z.0 z.1) (λ i. ((kept.0 ∙ j.gave) i, kept.1 i)) c.finish-history.ensures.history in
     whole sessions books joined count

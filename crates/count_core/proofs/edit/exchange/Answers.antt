@@ -7,7 +7,7 @@ use Rattle.count_core.specs.Marks.{CanPull, pulled, unpulled, pulling}
 use Rattle.node_forest.specs.Sides.{joined, remaining, outgoing, KeepsChild, path_after}
 use Rattle.count_core.proofs.TreeNodes.{children_of}
 use Rattle.count_core.proofs.edit.exchange.Goals as goal
-use Rattle.count_core.proofs.edit.exchange.Goals.{then-not-is_branch-via-then-not-is_branch, then-not-is_branch-via-else-not-is_branch+then-count-edges, then-not-is_branch-via-else-not-is_branch+else-count-edges+then-not-keeps_child, then-many-lt1-via-then-many-lt1, then-many-lt1-via-else-many-lt1+then-many-gt6}
+use Rattle.count_core.proofs.edit.exchange.Goals.{then-not-is_branch-via-then-not-is_branch, then-not-is_branch-via-else-not-is_branch+then-count-edges, then-not-is_branch-via-else-not-is_branch+else-count-edges+then-not-keeps_child, then-many-lt1-via-then-many-lt1, then-many-lt1-via-else-many-lt1+then-many-gt-MOST_EDGES}
 
 pub returns-then-not-is_branch : goal.returns-then-not-is_branch
 returns-then-not-is_branch c = λ fits.
@@ -47,7 +47,7 @@ returns-then-many-lt1 c = λ fits.
     let few = fits.1.few in
     elim c.then-many-lt1.branch [
       | then-many-lt1-via-then-many-lt1 w ↦ absurd (omega (arith, c.len-many.ensures, w.if-many-lt1.true, c.in_ok-kids.kids.ok))
-      | then-many-lt1-via-else-many-lt1+then-many-gt6 w ↦ absurd (omega (arith, c.len-many.ensures, w.if-many-gt6.true, c.in_ok-kids.kids.ok))
+      | then-many-lt1-via-else-many-lt1+then-many-gt-MOST_EDGES w ↦ absurd (omega (arith, c.len-many.ensures, w.if-many-gt-MOST_EDGES.true, c.in_ok-kids.kids.ok))
     ]
 
 pub returns : goal.returns
@@ -68,14 +68,17 @@ returns c =
     let news : c.len.result ≡ length (pulled ms hs) = (let e = ap (λ (ts : List Node). length ts) pulls.1 in omega (arith, c.len.ensures, c.in-Some.new.ok)) in
     let places = c.new_place-place.ensures ∙ ap (λ (z : ℕ). path_after side count z c.args.path.now) news in
     let rest : c.gain.new.self ≡ unpulled ms hs ++ outgoing side count (children now) = c.in_ok-gain.ensures ∙ (λ i. pulls.2 i ++ out i) in (
-      (pulls.0, record {
-        branch = c.if-not-is_branch.ensures.0 refl;
-        enough = (let m = c.if-count-edges.false in omega arith);
-        keeps = subst (λ (z : ℕ). KeepsChild side count z c.args.path.now) edges (c.if-not-keeps_child.ensures.0 refl);
-        some = omega (arith, c.len-many.ensures, c.if-many-lt1.false, c.in_ok-kids.kids.ok);
-        few = omega (arith, c.len-many.ensures, c.if-many-gt6.false, c.in_ok-kids.kids.ok);
-        short = (let l = c.in-Some-total.ensures.1 in omega arith);
-      }),
+      (
+        pulls.0,
+        record {
+          branch = c.if-not-is_branch.ensures.0 refl;
+          enough = (let m = c.if-count-edges.false in omega arith);
+          keeps = subst (λ (z : ℕ). KeepsChild side count z c.args.path.now) edges (c.if-not-keeps_child.ensures.0 refl);
+          some = omega (arith, c.len-many.ensures, c.if-many-lt1.false, c.in_ok-kids.kids.ok);
+          few = omega (arith, c.len-many.ensures, c.if-many-gt-MOST_EDGES.false, c.in_ok-kids.kids.ok);
+          short = (let l = c.in-Some-total.ensures.1 in omega arith);
+        },
+      ),
       λ i. record {
         tree = (record { number = (c.tree.view_is i).0.number; kind = (c.tree.view_is i).0.kind; length = sum i; bytes = (c.tree.view_is i).0.bytes; more = (c.tree.view_is i).0.more }, forest (made i));
         path = places i;

@@ -7,7 +7,7 @@ use Rattle.node_forest.specs.Changes.{Exchange, Site, site, total}
 use Rattle.node_edges.specs.Changes.{edits, FitEach}
 use Rattle.node_edges.specs.Levels.{exchange_of, exchanges_in, all_bytes, all_room, FitAllBytes, all_after, all_out, AreAt, AreDeep, CanExchange, lowered, most_out}
 use Rattle.node_edges.proofs.EditLaws.{flat_at, branch_at, never-take}
-use Rattle.node_edges.proofs.LevelLaws.{flat-level_fits, flat-level, branch-few, own-level, has-path, within, child-fits, below-level, most-parts, fits-kinds, none-there, some-there}
+use Rattle.node_edges.proofs.LevelLaws.{flat-level_fits, flat-level, branch-few, own-here, has-path, within, child-fits, below-here, made-branch, most-parts, fits-kinds, none-there, some-there}
 use Rattle.node_edges.proofs.edit.+edit_below.Goals as goal
 
 pub fill_and_shorten-requires-clause-fit : goal.fill_and_shorten-requires-clause-fit
@@ -39,17 +39,11 @@ pub exchange_all-requires : goal.exchange_all-requires
 exchange_all-requires t c =
     let cs = c.args.changes.now in
     let es = c.in-Branch.edges in
-    let is = sym c.in-Branch.is ∙ c.in-Some.ensures.value in
-    let view = c.edge.view_is ∙ c.unshare.ensures in
-    let none = none-there c.split_at.result.0.now c.if-is_empty-2.ensures in
-    let at_once : c.deeper_than.result ≡ 0 = omega (arith, none, c.split_at.ensures.front_len) in
     let xs : List Exchange = reverse (map exchange_of c.in_ok-ready.ready.items) in
-    let all : xs ≡ exchanges_in cs = c.in_ok-ready.ensures ∙ ap exchanges_in (c.split_at.ensures.back ∙ ap (λ (k : ℕ). drop k cs) at_once) in
-    let here = subst (λ (k : ℕ). AreAt c.args.depth (drop k cs)) at_once c.deeper_than.ensures.here in
-    let level = own-level cs c.args.depth c.edge.inside.number c.edge.inside.length c.in-Branch.height es c.edge.inside.body.value c.args.edge.now c.args.path.now c.args.out.now.items
-    is view c.edge.invariant c.requires.fit xs all here in
-    let few = branch-few cs c.args.depth c.edge.inside.number c.edge.inside.length c.in-Branch.height es c.edge.inside.body.value c.args.edge.now c.args.path.now c.args.out.now.items
-    is view c.edge.invariant c.requires.fit in
+    let at_once : c.deeper_than.result ≡ 0 = omega (arith, none-there c.split_at.result.0.now c.if-is_empty-2.ensures, c.split_at.ensures.front_len) in
+    let level = own-here cs c.args.depth c.edge.inside.number c.edge.inside.length c.in-Branch.height c.in-Branch.edges c.edge.inside.body.value c.args.edge.now c.args.path.now c.args.out.now.items (sym c.in-Branch.is ∙ c.in-Some.ensures.value) (c.edge.view_is ∙ c.unshare.ensures) c.edge.invariant c.requires.fit
+    c.deeper_than.result c.split_at.result.1.now c.in_ok-ready.ready.items at_once c.deeper_than.ensures.here c.split_at.ensures.back c.in_ok-ready.ensures in
+    let few = branch-few cs c.args.depth c.edge.inside.number c.edge.inside.length c.in-Branch.height c.in-Branch.edges c.edge.inside.body.value c.args.edge.now c.args.path.now c.args.out.now.items (sym c.in-Branch.is ∙ c.in-Some.ensures.value) (c.edge.view_is ∙ c.unshare.ensures) c.edge.invariant c.requires.fit in
     record {
       fit = subst (λ (z : List Node). CanExchange xs z) (sym c.reserve-in-Branch.ensures.items) level.made.can;
       wide = omega (arith, c.in_ok-reserve-2.ensures.ok, c.reserve-in-Branch.ensures.len, c.len-in-Branch.ensures, few, es.ok);
@@ -60,58 +54,33 @@ pub total-edge-inside-requires : goal.total-edge-inside-requires
 total-edge-inside-requires t c =
     let cs = c.args.changes.now in
     let es = c.in-Branch.edges in
-    let is = sym c.in-Branch.is ∙ c.in-Some.ensures.value in
-    let view = c.edge.view_is ∙ c.unshare.ensures in
-    let none = none-there c.split_at.result.0.now c.if-is_empty-2.ensures in
-    let at_once : c.deeper_than.result ≡ 0 = omega (arith, none, c.split_at.ensures.front_len) in
     let xs : List Exchange = reverse (map exchange_of c.in_ok-ready.ready.items) in
-    let all : xs ≡ exchanges_in cs = c.in_ok-ready.ensures ∙ ap exchanges_in (c.split_at.ensures.back ∙ ap (λ (k : ℕ). drop k cs) at_once) in
-    let here = subst (λ (k : ℕ). AreAt c.args.depth (drop k cs)) at_once c.deeper_than.ensures.here in
-    let level = own-level cs c.args.depth c.edge.inside.number c.edge.inside.length c.in-Branch.height es c.edge.inside.body.value c.args.edge.now c.args.path.now c.args.out.now.items
-    is view c.edge.invariant c.requires.fit xs all here in
+    let at_once : c.deeper_than.result ≡ 0 = omega (arith, none-there c.split_at.result.0.now c.if-is_empty-2.ensures, c.split_at.ensures.front_len) in
+    let level = own-here cs c.args.depth c.edge.inside.number c.edge.inside.length c.in-Branch.height c.in-Branch.edges c.edge.inside.body.value c.args.edge.now c.args.path.now c.args.out.now.items (sym c.in-Branch.is ∙ c.in-Some.ensures.value) (c.edge.view_is ∙ c.unshare.ensures) c.edge.invariant c.requires.fit
+    c.deeper_than.result c.split_at.result.1.now c.in_ok-ready.ready.items at_once c.deeper_than.ensures.here c.split_at.ensures.back c.in_ok-ready.ensures in
     let made : c.exchange_all.new.edges.items ≡ all_after xs es.items = c.exchange_all.ensures.edges ∙ ap (all_after xs) c.reserve-in-Branch.ensures.items in
-    let sum : total c.deref.result.now ≡ total (all_after xs es.items) = ap total (c.deref.ensures.value ∙ made) in
     let short = level.made.short in
-    omega (arith, sum, short)
+    omega (arith, ap total (c.deref.ensures.value ∙ made), short)
 
 pub invariant_of-edge-then-is_empty-2 : goal.invariant_of-edge-then-is_empty-2
 invariant_of-edge-then-is_empty-2 t c =
     let cs = c.args.changes.now in
     let es = c.in-Branch.edges in
-    let is = sym c.in-Branch.is ∙ c.in-Some.ensures.value in
-    let view = c.edge.view_is ∙ c.unshare.ensures in
-    let none = none-there c.split_at.result.0.now c.if-is_empty-2.ensures in
-    let at_once : c.deeper_than.result ≡ 0 = omega (arith, none, c.split_at.ensures.front_len) in
     let xs : List Exchange = reverse (map exchange_of c.in_ok-ready.ready.items) in
-    let all : xs ≡ exchanges_in cs = c.in_ok-ready.ensures ∙ ap exchanges_in (c.split_at.ensures.back ∙ ap (λ (k : ℕ). drop k cs) at_once) in
-    let here = subst (λ (k : ℕ). AreAt c.args.depth (drop k cs)) at_once c.deeper_than.ensures.here in
-    let level = own-level cs c.args.depth c.edge.inside.number c.edge.inside.length c.in-Branch.height es c.edge.inside.body.value c.args.edge.now c.args.path.now c.args.out.now.items
-    is view c.edge.invariant c.requires.fit xs all here in
+    let at_once : c.deeper_than.result ≡ 0 = omega (arith, none-there c.split_at.result.0.now c.if-is_empty-2.ensures, c.split_at.ensures.front_len) in
+    let level = own-here cs c.args.depth c.edge.inside.number c.edge.inside.length c.in-Branch.height c.in-Branch.edges c.edge.inside.body.value c.args.edge.now c.args.path.now c.args.out.now.items (sym c.in-Branch.is ∙ c.in-Some.ensures.value) (c.edge.view_is ∙ c.unshare.ensures) c.edge.invariant c.requires.fit
+    c.deeper_than.result c.split_at.result.1.now c.in_ok-ready.ready.items at_once c.deeper_than.ensures.here c.split_at.ensures.back c.in_ok-ready.ensures in
     let made : c.exchange_all.new.edges.items ≡ all_after xs es.items = c.exchange_all.ensures.edges ∙ ap (all_after xs) c.reserve-in-Branch.ensures.items in
-    let sum : c.total-edge-inside.result ≡ total (all_after xs es.items) = c.total-edge-inside.ensures ∙ ap total (c.deref.ensures.value ∙ made) in
-    let long : c.total-edge-inside.result ≡ total c.exchange_all.new.edges.items = sum ∙ ap total (sym made) in
-    let count : length c.exchange_all.new.edges.items ≡ length (all_after xs es.items) = ap (λ (z : List Node). length z) made in
-    let short = level.made.short in
-    let some = level.made.some in
-    let few = level.made.few in
-    record {
-      long = long;
-      body = record { small = omega (arith, long, sum, short); few = (let l : 0 < length c.exchange_all.new.edges.items = omega arith in l, let l : length c.exchange_all.new.edges.items ≤ 6 = omega arith in l) };
-    }
+    made-branch xs es.items c.exchange_all.new.edges c.total-edge-inside.result made (c.total-edge-inside.ensures ∙ ap total c.deref.ensures.value) level.made.short level.made.some level.made.few c.in-Branch.height
 
 pub returns-then-is_empty-2 : goal.returns-then-is_empty-2
 returns-then-is_empty-2 t c =
     let cs = c.args.changes.now in
     let es = c.in-Branch.edges in
-    let is = sym c.in-Branch.is ∙ c.in-Some.ensures.value in
-    let view = c.edge.view_is ∙ c.unshare.ensures in
-    let none = none-there c.split_at.result.0.now c.if-is_empty-2.ensures in
-    let at_once : c.deeper_than.result ≡ 0 = omega (arith, none, c.split_at.ensures.front_len) in
     let xs : List Exchange = reverse (map exchange_of c.in_ok-ready.ready.items) in
-    let all : xs ≡ exchanges_in cs = c.in_ok-ready.ensures ∙ ap exchanges_in (c.split_at.ensures.back ∙ ap (λ (k : ℕ). drop k cs) at_once) in
-    let here = subst (λ (k : ℕ). AreAt c.args.depth (drop k cs)) at_once c.deeper_than.ensures.here in
-    let level = own-level cs c.args.depth c.edge.inside.number c.edge.inside.length c.in-Branch.height es c.edge.inside.body.value c.args.edge.now c.args.path.now c.args.out.now.items
-    is view c.edge.invariant c.requires.fit xs all here in
+    let at_once : c.deeper_than.result ≡ 0 = omega (arith, none-there c.split_at.result.0.now c.if-is_empty-2.ensures, c.split_at.ensures.front_len) in
+    let level = own-here cs c.args.depth c.edge.inside.number c.edge.inside.length c.in-Branch.height c.in-Branch.edges c.edge.inside.body.value c.args.edge.now c.args.path.now c.args.out.now.items (sym c.in-Branch.is ∙ c.in-Some.ensures.value) (c.edge.view_is ∙ c.unshare.ensures) c.edge.invariant c.requires.fit
+    c.deeper_than.result c.split_at.result.1.now c.in_ok-ready.ready.items at_once c.deeper_than.ensures.here c.split_at.ensures.back c.in_ok-ready.ensures in
     let made : c.exchange_all.new.edges.items ≡ all_after xs es.items = c.exchange_all.ensures.edges ∙ ap (all_after xs) c.reserve-in-Branch.ensures.items in
     let sum : c.total-edge-inside.result ≡ total (all_after xs es.items) = c.total-edge-inside.ensures ∙ ap total (c.deref.ensures.value ∙ made) in
     record {
@@ -125,26 +94,20 @@ returns-then-is_empty-2 t c =
 pub unreachable-requires : goal.unreachable-requires
 unreachable-requires t c =
     let cs = c.args.changes.now in
-    let es = c.in-Branch.edges in
-    let is = sym c.in-Branch.is ∙ c.in-Some.ensures.value in
-    let view = c.edge.view_is ∙ c.unshare.ensures in
     let some : 0 < length (take c.deeper_than.result cs) = subst (λ (z : List (ℕ × Change)). 0 < length z) c.split_at.ensures.front (some-there c.split_at.result.0.now c.if-is_empty-2.ensures) in
-    has-path cs c.args.depth c.edge.inside.number c.edge.inside.length c.in-Branch.height es c.edge.inside.body.value c.args.edge.now c.args.path.now c.args.out.now.items
-    is view c.edge.invariant c.requires.fit c.deeper_than.result c.deeper_than.ensures.deep c.deeper_than.ensures.here some c.in_default-split_first.ensures.cases
+    has-path cs c.args.depth c.edge.inside.number c.edge.inside.length c.in-Branch.height c.in-Branch.edges c.edge.inside.body.value c.args.edge.now c.args.path.now c.args.out.now.items (sym c.in-Branch.is ∙ c.in-Some.ensures.value) (c.edge.view_is ∙ c.unshare.ensures) c.edge.invariant c.requires.fit
+    c.deeper_than.result c.deeper_than.ensures.deep c.deeper_than.ensures.here some c.in_default-split_first.ensures.cases
 
 pub index_mut-child-requires : goal.index_mut-child-requires
 index_mut-child-requires t c =
     let cs = c.args.changes.now in
-    let es = c.in-Branch.edges in
-    let is = sym c.in-Branch.is ∙ c.in-Some.ensures.value in
-    let view = c.edge.view_is ∙ c.unshare.ensures in
     let some : 0 < length (take c.deeper_than.result cs) = subst (λ (z : List (ℕ × Change)). 0 < length z) c.split_at.ensures.front (some-there c.split_at.result.0.now c.if-is_empty-2.ensures) in
     let rest = c.in-Some-split_first.rest.now in
     let p = c.from.result in
     let split : c.args.path.now ≡ p ∷ rest = c.in-Some-split_first.ensures.cases.0 ∙ ap (λ (z : ℕ). z ∷ rest) (sym c.from.ensures) in
-    let low = within cs c.args.depth c.edge.inside.number c.edge.inside.length c.in-Branch.height es c.edge.inside.body.value c.args.edge.now c.args.path.now c.args.out.now.items
-    is view c.edge.invariant c.requires.fit c.deeper_than.result c.deeper_than.ensures.deep c.deeper_than.ensures.here some p rest split in
-    omega (arith, low, c.reserve-in-Branch.ensures.len, es.ok)
+    let low = within cs c.args.depth c.edge.inside.number c.edge.inside.length c.in-Branch.height c.in-Branch.edges c.edge.inside.body.value c.args.edge.now c.args.path.now c.args.out.now.items (sym c.in-Branch.is ∙ c.in-Some.ensures.value) (c.edge.view_is ∙ c.unshare.ensures) c.edge.invariant c.requires.fit
+    c.deeper_than.result c.deeper_than.ensures.deep c.deeper_than.ensures.here some p rest split in
+    omega (arith, low, c.reserve-in-Branch.ensures.len, c.in-Branch.edges.ok)
 
 pub edit_below-requires : goal.edit_below-requires
 edit_below-requires t c =
@@ -186,29 +149,20 @@ pub exchange_all-requires-in-Branch : goal.exchange_all-requires-in-Branch
 exchange_all-requires-in-Branch t c =
     let cs = c.args.changes.now in
     let es = c.in-Branch.edges in
-    let is = sym c.in-Branch.is ∙ c.in-Some.ensures.value in
-    let view = c.edge.view_is ∙ c.unshare.ensures in
-    let some : 0 < length (take c.deeper_than.result cs) = subst (λ (z : List (ℕ × Change)). 0 < length z) c.split_at.ensures.front (some-there c.split_at.result.0.now c.if-is_empty-2.ensures) in
-    let rest = c.in-Some-split_first.rest.now in
     let p = c.from.result in
-    let split : c.args.path.now ≡ p ∷ rest = c.in-Some-split_first.ensures.cases.0 ∙ ap (λ (z : ℕ). z ∷ rest) (sym c.from.ensures) in
-    let child = c.index_mut-child.result.now in
-    let read : child ≡ get_or es.items p child = c.index_mut-child.ensures.value ∙ ap (λ (z : List Node). get_or z p child) c.reserve-in-Branch.ensures.items in
-    let front = c.split_at.ensures.front in
     let xs : List Exchange = reverse (map exchange_of c.in_ok-ready.ready.items) in
-    let all : xs ≡ exchanges_in (drop c.deeper_than.result cs) = c.in_ok-ready.ensures ∙ ap exchanges_in c.split_at.ensures.back in
-    let end : Site = edits (lowered (c.args.depth + 1) (take c.deeper_than.result cs)) (site child rest c.args.out.now.items) in
-    let came : c.edit_below.new.edge ≡ end.tree = c.in_ok-edit_below.ensures.edited ∙ ap (λ (z : List (ℕ × Change)). (edits (lowered (c.args.depth + 1) z) (site child rest c.args.out.now.items)).tree) front in
-    let gone : c.edit_below.new.out.items ≡ end.out = c.in_ok-edit_below.ensures.removed ∙ ap (λ (z : List (ℕ × Change)). (edits (lowered (c.args.depth + 1) z) (site child rest c.args.out.now.items)).out) front in
-    let level = below-level cs c.args.depth c.edge.inside.number c.edge.inside.length c.in-Branch.height es c.edge.inside.body.value c.args.edge.now c.args.path.now c.args.out.now.items
-    is view c.edge.invariant c.requires.fit c.deeper_than.result c.deeper_than.ensures.deep c.deeper_than.ensures.here some p rest split child read xs c.edit_below.new.edge c.edit_below.new.out.items all came gone in
+    let level = below-here cs c.args.depth c.edge.inside.number c.edge.inside.length c.in-Branch.height c.in-Branch.edges c.edge.inside.body.value c.args.edge.now c.args.path.now c.args.out.now.items (sym c.in-Branch.is ∙ c.in-Some.ensures.value) (c.edge.view_is ∙ c.unshare.ensures) c.edge.invariant c.requires.fit
+    c.deeper_than.result c.split_at.result.0.now c.split_at.result.1.now c.in_ok-ready.ready.items p c.in-Some-split_first.rest.now c.index_mut-child.result.now c.edit_below.new.edge c.edit_below.new.out.items
+    c.deeper_than.ensures.deep c.deeper_than.ensures.here c.if-is_empty-2.ensures c.split_at.ensures.front c.split_at.ensures.back
+    (c.in-Some-split_first.ensures.cases.0 ∙ ap (λ (z : ℕ). z ∷ c.in-Some-split_first.rest.now) (sym c.from.ensures))
+    (c.index_mut-child.ensures.value ∙ ap (λ (z : List Node). get_or z p c.index_mut-child.result.now) c.reserve-in-Branch.ensures.items)
+    c.in_ok-ready.ensures c.in_ok-edit_below.ensures.edited c.in_ok-edit_below.ensures.removed in
     let kids : List Node = set es.items p c.edit_below.new.edge in
     let had : set c.reserve-in-Branch.new.self.items p c.edit_below.new.edge ≡ kids = ap (λ (z : List Node). set z p c.edit_below.new.edge) c.reserve-in-Branch.ensures.items in
     let parts = most-parts c.deeper_than.result cs in
-    let most = ap most_out front in
+    let most = ap most_out c.split_at.ensures.front in
     let grown = c.in_ok-edit_below.ensures.grown in
-    let few = branch-few cs c.args.depth c.edge.inside.number c.edge.inside.length c.in-Branch.height es c.edge.inside.body.value c.args.edge.now c.args.path.now c.args.out.now.items
-    is view c.edge.invariant c.requires.fit in
+    let few = branch-few cs c.args.depth c.edge.inside.number c.edge.inside.length c.in-Branch.height c.in-Branch.edges c.edge.inside.body.value c.args.edge.now c.args.path.now c.args.out.now.items (sym c.in-Branch.is ∙ c.in-Some.ensures.value) (c.edge.view_is ∙ c.unshare.ensures) c.edge.invariant c.requires.fit in
     record {
       fit = subst (λ (z : List Node). CanExchange xs z) (sym had) level.made.can;
       wide = omega (arith, c.in_ok-reserve-2.ensures.ok, c.reserve-in-Branch.ensures.len, c.len-in-Branch.ensures, few, es.ok);
@@ -219,87 +173,53 @@ pub total-edge-inside-requires-in-Branch : goal.total-edge-inside-requires-in-Br
 total-edge-inside-requires-in-Branch t c =
     let cs = c.args.changes.now in
     let es = c.in-Branch.edges in
-    let is = sym c.in-Branch.is ∙ c.in-Some.ensures.value in
-    let view = c.edge.view_is ∙ c.unshare.ensures in
-    let some : 0 < length (take c.deeper_than.result cs) = subst (λ (z : List (ℕ × Change)). 0 < length z) c.split_at.ensures.front (some-there c.split_at.result.0.now c.if-is_empty-2.ensures) in
-    let rest = c.in-Some-split_first.rest.now in
     let p = c.from.result in
-    let split : c.args.path.now ≡ p ∷ rest = c.in-Some-split_first.ensures.cases.0 ∙ ap (λ (z : ℕ). z ∷ rest) (sym c.from.ensures) in
-    let child = c.index_mut-child.result.now in
-    let read : child ≡ get_or es.items p child = c.index_mut-child.ensures.value ∙ ap (λ (z : List Node). get_or z p child) c.reserve-in-Branch.ensures.items in
-    let front = c.split_at.ensures.front in
     let xs : List Exchange = reverse (map exchange_of c.in_ok-ready.ready.items) in
-    let all : xs ≡ exchanges_in (drop c.deeper_than.result cs) = c.in_ok-ready.ensures ∙ ap exchanges_in c.split_at.ensures.back in
-    let end : Site = edits (lowered (c.args.depth + 1) (take c.deeper_than.result cs)) (site child rest c.args.out.now.items) in
-    let came : c.edit_below.new.edge ≡ end.tree = c.in_ok-edit_below.ensures.edited ∙ ap (λ (z : List (ℕ × Change)). (edits (lowered (c.args.depth + 1) z) (site child rest c.args.out.now.items)).tree) front in
-    let gone : c.edit_below.new.out.items ≡ end.out = c.in_ok-edit_below.ensures.removed ∙ ap (λ (z : List (ℕ × Change)). (edits (lowered (c.args.depth + 1) z) (site child rest c.args.out.now.items)).out) front in
-    let level = below-level cs c.args.depth c.edge.inside.number c.edge.inside.length c.in-Branch.height es c.edge.inside.body.value c.args.edge.now c.args.path.now c.args.out.now.items
-    is view c.edge.invariant c.requires.fit c.deeper_than.result c.deeper_than.ensures.deep c.deeper_than.ensures.here some p rest split child read xs c.edit_below.new.edge c.edit_below.new.out.items all came gone in
+    let level = below-here cs c.args.depth c.edge.inside.number c.edge.inside.length c.in-Branch.height c.in-Branch.edges c.edge.inside.body.value c.args.edge.now c.args.path.now c.args.out.now.items (sym c.in-Branch.is ∙ c.in-Some.ensures.value) (c.edge.view_is ∙ c.unshare.ensures) c.edge.invariant c.requires.fit
+    c.deeper_than.result c.split_at.result.0.now c.split_at.result.1.now c.in_ok-ready.ready.items p c.in-Some-split_first.rest.now c.index_mut-child.result.now c.edit_below.new.edge c.edit_below.new.out.items
+    c.deeper_than.ensures.deep c.deeper_than.ensures.here c.if-is_empty-2.ensures c.split_at.ensures.front c.split_at.ensures.back
+    (c.in-Some-split_first.ensures.cases.0 ∙ ap (λ (z : ℕ). z ∷ c.in-Some-split_first.rest.now) (sym c.from.ensures))
+    (c.index_mut-child.ensures.value ∙ ap (λ (z : List Node). get_or z p c.index_mut-child.result.now) c.reserve-in-Branch.ensures.items)
+    c.in_ok-ready.ensures c.in_ok-edit_below.ensures.edited c.in_ok-edit_below.ensures.removed in
     let kids : List Node = set es.items p c.edit_below.new.edge in
     let had : set c.reserve-in-Branch.new.self.items p c.edit_below.new.edge ≡ kids = ap (λ (z : List Node). set z p c.edit_below.new.edge) c.reserve-in-Branch.ensures.items in
     let made : c.exchange_all-in-Branch.new.edges.items ≡ all_after xs kids = c.exchange_all-in-Branch.ensures.edges ∙ ap (all_after xs) had in
-    let sum : total c.deref-in-Branch.result.now ≡ total (all_after xs kids) = ap total (c.deref-in-Branch.ensures.value ∙ made) in
     let short = level.made.short in
-    omega (arith, sum, short)
+    omega (arith, ap total (c.deref-in-Branch.ensures.value ∙ made), short)
 
 pub invariant_of-edge-in-Branch : goal.invariant_of-edge-in-Branch
 invariant_of-edge-in-Branch t c =
     let cs = c.args.changes.now in
     let es = c.in-Branch.edges in
-    let is = sym c.in-Branch.is ∙ c.in-Some.ensures.value in
-    let view = c.edge.view_is ∙ c.unshare.ensures in
-    let some : 0 < length (take c.deeper_than.result cs) = subst (λ (z : List (ℕ × Change)). 0 < length z) c.split_at.ensures.front (some-there c.split_at.result.0.now c.if-is_empty-2.ensures) in
-    let rest = c.in-Some-split_first.rest.now in
     let p = c.from.result in
-    let split : c.args.path.now ≡ p ∷ rest = c.in-Some-split_first.ensures.cases.0 ∙ ap (λ (z : ℕ). z ∷ rest) (sym c.from.ensures) in
-    let child = c.index_mut-child.result.now in
-    let read : child ≡ get_or es.items p child = c.index_mut-child.ensures.value ∙ ap (λ (z : List Node). get_or z p child) c.reserve-in-Branch.ensures.items in
-    let front = c.split_at.ensures.front in
     let xs : List Exchange = reverse (map exchange_of c.in_ok-ready.ready.items) in
-    let all : xs ≡ exchanges_in (drop c.deeper_than.result cs) = c.in_ok-ready.ensures ∙ ap exchanges_in c.split_at.ensures.back in
-    let end : Site = edits (lowered (c.args.depth + 1) (take c.deeper_than.result cs)) (site child rest c.args.out.now.items) in
-    let came : c.edit_below.new.edge ≡ end.tree = c.in_ok-edit_below.ensures.edited ∙ ap (λ (z : List (ℕ × Change)). (edits (lowered (c.args.depth + 1) z) (site child rest c.args.out.now.items)).tree) front in
-    let gone : c.edit_below.new.out.items ≡ end.out = c.in_ok-edit_below.ensures.removed ∙ ap (λ (z : List (ℕ × Change)). (edits (lowered (c.args.depth + 1) z) (site child rest c.args.out.now.items)).out) front in
-    let level = below-level cs c.args.depth c.edge.inside.number c.edge.inside.length c.in-Branch.height es c.edge.inside.body.value c.args.edge.now c.args.path.now c.args.out.now.items
-    is view c.edge.invariant c.requires.fit c.deeper_than.result c.deeper_than.ensures.deep c.deeper_than.ensures.here some p rest split child read xs c.edit_below.new.edge c.edit_below.new.out.items all came gone in
+    let level = below-here cs c.args.depth c.edge.inside.number c.edge.inside.length c.in-Branch.height c.in-Branch.edges c.edge.inside.body.value c.args.edge.now c.args.path.now c.args.out.now.items (sym c.in-Branch.is ∙ c.in-Some.ensures.value) (c.edge.view_is ∙ c.unshare.ensures) c.edge.invariant c.requires.fit
+    c.deeper_than.result c.split_at.result.0.now c.split_at.result.1.now c.in_ok-ready.ready.items p c.in-Some-split_first.rest.now c.index_mut-child.result.now c.edit_below.new.edge c.edit_below.new.out.items
+    c.deeper_than.ensures.deep c.deeper_than.ensures.here c.if-is_empty-2.ensures c.split_at.ensures.front c.split_at.ensures.back
+    (c.in-Some-split_first.ensures.cases.0 ∙ ap (λ (z : ℕ). z ∷ c.in-Some-split_first.rest.now) (sym c.from.ensures))
+    (c.index_mut-child.ensures.value ∙ ap (λ (z : List Node). get_or z p c.index_mut-child.result.now) c.reserve-in-Branch.ensures.items)
+    c.in_ok-ready.ensures c.in_ok-edit_below.ensures.edited c.in_ok-edit_below.ensures.removed in
     let kids : List Node = set es.items p c.edit_below.new.edge in
     let had : set c.reserve-in-Branch.new.self.items p c.edit_below.new.edge ≡ kids = ap (λ (z : List Node). set z p c.edit_below.new.edge) c.reserve-in-Branch.ensures.items in
     let made : c.exchange_all-in-Branch.new.edges.items ≡ all_after xs kids = c.exchange_all-in-Branch.ensures.edges ∙ ap (all_after xs) had in
-    let sum : c.total-edge-inside-in-Branch.result ≡ total (all_after xs kids) = c.total-edge-inside-in-Branch.ensures ∙ ap total (c.deref-in-Branch.ensures.value ∙ made) in
-    let long : c.total-edge-inside-in-Branch.result ≡ total c.exchange_all-in-Branch.new.edges.items = sum ∙ ap total (sym made) in
-    let count : length c.exchange_all-in-Branch.new.edges.items ≡ length (all_after xs kids) = ap (λ (z : List Node). length z) made in
-    let short = level.made.short in
-    let least = level.made.some in
-    let few = level.made.few in
-    record {
-      long = long;
-      body = record { small = omega (arith, long, sum, short); few = (let l : 0 < length c.exchange_all-in-Branch.new.edges.items = omega arith in l, let l : length c.exchange_all-in-Branch.new.edges.items ≤ 6 = omega arith in l) };
-    }
+    made-branch xs kids c.exchange_all-in-Branch.new.edges c.total-edge-inside-in-Branch.result made (c.total-edge-inside-in-Branch.ensures ∙ ap total c.deref-in-Branch.ensures.value) level.made.short level.made.some level.made.few c.in-Branch.height
 
 pub returns-in-Branch : goal.returns-in-Branch
 returns-in-Branch t c =
     let cs = c.args.changes.now in
     let es = c.in-Branch.edges in
-    let is = sym c.in-Branch.is ∙ c.in-Some.ensures.value in
-    let view = c.edge.view_is ∙ c.unshare.ensures in
-    let some : 0 < length (take c.deeper_than.result cs) = subst (λ (z : List (ℕ × Change)). 0 < length z) c.split_at.ensures.front (some-there c.split_at.result.0.now c.if-is_empty-2.ensures) in
-    let rest = c.in-Some-split_first.rest.now in
     let p = c.from.result in
-    let split : c.args.path.now ≡ p ∷ rest = c.in-Some-split_first.ensures.cases.0 ∙ ap (λ (z : ℕ). z ∷ rest) (sym c.from.ensures) in
-    let child = c.index_mut-child.result.now in
-    let read : child ≡ get_or es.items p child = c.index_mut-child.ensures.value ∙ ap (λ (z : List Node). get_or z p child) c.reserve-in-Branch.ensures.items in
-    let front = c.split_at.ensures.front in
     let xs : List Exchange = reverse (map exchange_of c.in_ok-ready.ready.items) in
-    let all : xs ≡ exchanges_in (drop c.deeper_than.result cs) = c.in_ok-ready.ensures ∙ ap exchanges_in c.split_at.ensures.back in
-    let end : Site = edits (lowered (c.args.depth + 1) (take c.deeper_than.result cs)) (site child rest c.args.out.now.items) in
-    let came : c.edit_below.new.edge ≡ end.tree = c.in_ok-edit_below.ensures.edited ∙ ap (λ (z : List (ℕ × Change)). (edits (lowered (c.args.depth + 1) z) (site child rest c.args.out.now.items)).tree) front in
-    let gone : c.edit_below.new.out.items ≡ end.out = c.in_ok-edit_below.ensures.removed ∙ ap (λ (z : List (ℕ × Change)). (edits (lowered (c.args.depth + 1) z) (site child rest c.args.out.now.items)).out) front in
-    let level = below-level cs c.args.depth c.edge.inside.number c.edge.inside.length c.in-Branch.height es c.edge.inside.body.value c.args.edge.now c.args.path.now c.args.out.now.items
-    is view c.edge.invariant c.requires.fit c.deeper_than.result c.deeper_than.ensures.deep c.deeper_than.ensures.here some p rest split child read xs c.edit_below.new.edge c.edit_below.new.out.items all came gone in
+    let level = below-here cs c.args.depth c.edge.inside.number c.edge.inside.length c.in-Branch.height c.in-Branch.edges c.edge.inside.body.value c.args.edge.now c.args.path.now c.args.out.now.items (sym c.in-Branch.is ∙ c.in-Some.ensures.value) (c.edge.view_is ∙ c.unshare.ensures) c.edge.invariant c.requires.fit
+    c.deeper_than.result c.split_at.result.0.now c.split_at.result.1.now c.in_ok-ready.ready.items p c.in-Some-split_first.rest.now c.index_mut-child.result.now c.edit_below.new.edge c.edit_below.new.out.items
+    c.deeper_than.ensures.deep c.deeper_than.ensures.here c.if-is_empty-2.ensures c.split_at.ensures.front c.split_at.ensures.back
+    (c.in-Some-split_first.ensures.cases.0 ∙ ap (λ (z : ℕ). z ∷ c.in-Some-split_first.rest.now) (sym c.from.ensures))
+    (c.index_mut-child.ensures.value ∙ ap (λ (z : List Node). get_or z p c.index_mut-child.result.now) c.reserve-in-Branch.ensures.items)
+    c.in_ok-ready.ensures c.in_ok-edit_below.ensures.edited c.in_ok-edit_below.ensures.removed in
     let kids : List Node = set es.items p c.edit_below.new.edge in
     let had : set c.reserve-in-Branch.new.self.items p c.edit_below.new.edge ≡ kids = ap (λ (z : List Node). set z p c.edit_below.new.edge) c.reserve-in-Branch.ensures.items in
     let parts = most-parts c.deeper_than.result cs in
-    let most = ap most_out front in
+    let most = ap most_out c.split_at.ensures.front in
     let grown = c.in_ok-edit_below.ensures.grown in
     let made : c.exchange_all-in-Branch.new.edges.items ≡ all_after xs kids = c.exchange_all-in-Branch.ensures.edges ∙ ap (all_after xs) had in
     let sum : c.total-edge-inside-in-Branch.result ≡ total (all_after xs kids) = c.total-edge-inside-in-Branch.ensures ∙ ap total (c.deref-in-Branch.ensures.value ∙ made) in

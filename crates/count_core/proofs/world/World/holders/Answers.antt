@@ -4,7 +4,7 @@ use Rattle.std.specs.Prelude.{Some, None}
 use Rattle.node_forest.specs.Forest.{nodes_of}
 use Rattle.node_forest.specs.Counts.{first, edges_in}
 use Rattle.count_core.specs.Search.{IsNext}
-use Rattle.count_core.specs.Sound.{sum_below, edge}
+use Rattle.count_core.specs.SoundBelow.{sum_below, edge}
 use Rattle.count_core.specs.Steps.{roots}
 use Rattle.count_core.proofs.Search.{sum_next, sum_whole}
 use Rattle.count_core.proofs.world.World.holders.Goals as goal

@@ -1,7 +1,7 @@
 -- What the loop of `holders` keeps, or what grows less in its recursion.
 use Rattle.std.proofs.Common.{◌≡◌, ◌+◌, ◌-◌, ◌^◌, ◌≤◌, min}
 use Rattle.node_forest.specs.Counts.{times}
-use Rattle.count_core.specs.Sound.{sum_below, edge}
+use Rattle.count_core.specs.SoundBelow.{sum_below, edge}
 use Rattle.count_core.specs.Steps.{roots}
 use Rattle.count_core.proofs.world.World.holders.Given as goal
 

@@ -1,12 +1,12 @@
 -- What the proof of `Desk::close` needs beyond the search.
 use Rattle.std.proofs.Common.{rules, arith, ◌≡◌, ℕ, suc, ◌<◌, ◌≤◌, ◌+◌, List, [], ◌∷◌, ◌++◌, map, length, take, vec_len, vec_capacity, get_or, true, false, refl, ap, sym, ◌∙◌, subst, below_more, get_or-set_other, get_or-set_same, add-one}
+use Rattle.std.proofs.lemmas.List.{length-map}
 use mathlib.Core.Option.{some}
 use lib.ListN.{get_elem?}
 use Rattle.std.specs.Mem.Slots.{slots_items, slots_filled, slots_counts}
 use Rattle.turn_desk.specs.Spots.{choice, chosen_of}
 use Rattle.turn_desk.specs.Table.{slot_of}
 use Rattle.turn_desk.proofs.Closing.{chosen_more, chosen_all, taken_whole, ends}
-use Rattle.turn_desk.proofs.Keeps.{length_mapped}
 use Rattle.turn_desk.proofs.desk.Desk.close.Goals as goal
 
 pub loop-i-preserved : goal.loop-i-preserved
@@ -43,11 +43,11 @@ returns g c =
     let r = v.1.0 in
     let ws = slots_items c.close_with-closed.result.words in
     let xs = slots_items c.close_with-closed.result.slots in
-    let long : length r.spots ≡ length xs = sym (length_mapped slot_of r.spots) ∙ (ap length (sym r.homes) ∙ v.3) in
+    let long : length r.spots ≡ length xs = sym (length-map r.spots slot_of) ∙ (ap length (sym r.homes) ∙ v.3) in
     let counted = c.slot_count-count.ensures in
     let counts = c.close_with-closed.ensures.counts in
     let n = slots_counts c.close_with-closed.result.slots in
     let many = n.0 in
     let at_end : c.loop-i.i ≡ length r.spots = omega arith in
     let whole : chosen_of ws xs ≡ map Rattle.turn_desk.specs.Spots.at_home r.spots = ap (λ z. chosen_of z xs) (sym v.2 ∙ r.words) ∙ chosen_all r.spots xs long (λ k y e. v.4 k y (ap (λ z. get_elem? z k) r.homes ∙ e)) in
-    ends g.T.DeskRule.agrees v.0 r c.args.pass c.loop-i.room.items c.requires.idle v.1.1 (inv.items ∙ (ap (λ z. take z (chosen_of ws xs)) at_end ∙ (taken_whole (length r.spots) (chosen_of ws xs) (ap length whole ∙ length_mapped Rattle.turn_desk.specs.Spots.at_home r.spots) ∙ whole)))
+    ends g.T.DeskRule.agrees v.0 r c.args.pass c.loop-i.room.items c.requires.idle v.1.1 (inv.items ∙ (ap (λ z. take z (chosen_of ws xs)) at_end ∙ (taken_whole (length r.spots) (chosen_of ws xs) (ap length whole ∙ length-map r.spots Rattle.turn_desk.specs.Spots.at_home) ∙ whole)))

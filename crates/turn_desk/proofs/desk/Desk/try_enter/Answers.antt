@@ -10,4 +10,4 @@ compare_exchange-found-requires g c = (c.requires.desk, search rules, enters g.T
 pub exchange-requires : goal.exchange-requires
 exchange-requires g c =
     let e = c.compare_exchange-found.ensures.2.1 c.if-found-ne0.false in
-    (c.compare_exchange-found.ensures.0 ∙ c.requires.desk, (Some e.0, e.2 ∙ ap (λ z. (c.args.l, Some e.0) ∷ rest z) (sym e.2)))
+    (c.compare_exchange-found.ensures.0 ∙ c.requires.desk, (Some e.0, e.2 ∙ ap (λ z. (c.args.place, Some e.0) ∷ rest z) (sym e.2)))

@@ -18,7 +18,7 @@ abbrev pub holders_below : ℕ → List Node → ℕ → ℕ
 holders_below size roots n = times n roots + sum_below size (edge roots n)
 
 -- the trees agree, fit below `size`, and each word is the count of its number's holders
-pub record Sound (size : ℕ) (word : ℕ → ℕ) (roots : List Node) : Type 0 where
+pub record IsSoundBelow (size : ℕ) (word : ℕ → ℕ) (roots : List Node) : Type 0 where
   pub agreed : Agreed roots
   pub counted : (n : ℕ) → n < size → word n ≡ holders_below size roots n
   pub fitting : Fitting size roots
