@@ -1,5 +1,6 @@
 -- What contracts see of a registry, and the rules that hold in each.
 use Rattle.std.specs.Prelude.{◌≡◌, ℕ, ◌+◌, ◌≤◌, ◌<◌, IsSome, List, [], ◌∷◌, true, Option, Some, None, length, slice_index_or}
+use Rattle.cordz_core.specs.Limits.{most_records, most_walkers}
 use Rattle.cordz_core.specs.declared.slot.Slot.{Slot}
 use Rattle.cordz_core.specs.declared.slot.Clock.{Clock}
 use Rattle.cordz_core.specs.declared.slot.Entry.{Entry}
@@ -46,16 +47,16 @@ birth_of v w = birth_in v.births w
 -- each that waits is marked as waiting
 abbrev pub AllMarked : List Entry → List (Option Clock) → List Waiting → Type 0
 AllMarked es bs [] = Unit {0}
-AllMarked es bs (Snapshot w b ∷ q) = (w.number < 16) × (birth_in bs w.number ≡ Some b) × AllMarked es bs q
-AllMarked es bs (Record s p ∷ q) = (s.number < 256) × ((entry_in es s.number).state ≡ Queued) × AllMarked es bs q
+AllMarked es bs (Snapshot w b ∷ q) = (w.number < most_walkers) × (birth_in bs w.number ≡ Some b) × AllMarked es bs q
+AllMarked es bs (Record s p ∷ q) = (s.number < most_records) × ((entry_in es s.number).state ≡ Queued) × AllMarked es bs q
 
 -- the rules of every registry
 pub record IsSound (v : Contents) : Type 0 where
   pub stamps : v.stamps ≤ v.clock
-  pub walkers : v.walkers ≤ 16
-  pub entries : length v.entries ≡ 256
-  pub newer : length v.newer ≡ 256
-  pub births : length v.births ≡ 16
+  pub walkers : v.walkers ≤ most_walkers
+  pub entries : length v.entries ≡ most_records
+  pub newer : length v.newer ≡ most_records
+  pub births : length v.births ≡ most_walkers
   pub apart : Apart (codes v.queue)
   pub marked : AllMarked v.entries v.births v.queue
-  pub present : (w : ℕ) → w < 16 → IsSome (birth_in v.births w) → has (256 + w) (codes v.queue) ≡ true
+  pub present : (w : ℕ) → w < most_walkers → IsSome (birth_in v.births w) → has (most_records + w) (codes v.queue) ≡ true

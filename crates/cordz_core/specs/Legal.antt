@@ -1,6 +1,7 @@
 -- Which lists of actions are legal, and what a registry is that such a list has made.
 use Rattle.std.specs.Prelude.{◌≡◌, ℕ, ◌+◌, ◌-◌, ◌^◌, ◌<◌, ◌≤◌, ◌==◌, ◌⊎◌, cond, true, List, [], ◌∷◌, ◌++◌, length, Option, Some, None, option_map}
 use Rattle.std.specs.Prelude.{option_and_then, IsSome, slice_index_or}
+use Rattle.cordz_core.specs.Limits.{most_records, most_walkers, most_actions}
 use Rattle.cordz_core.specs.declared.slot.Slot.{Slot}
 use Rattle.cordz_core.specs.declared.slot.Entry.{Entry}
 use Rattle.cordz_core.specs.declared.slot.SlotState.{SlotState}
@@ -32,18 +33,18 @@ state_after h s = state_for (use_of h s) (record_in (records h) s) (snapshots h)
 
 -- the condition of each action
 abbrev pub IsAllowed : ℕ → Action → History → Type 0
-IsAllowed walkers (Reserves s) h = (s < 256) × (state_after h s ≡ Free)
-IsAllowed walkers (Frees s) h = (s < 256) × ((state_after h s ≡ Reserved) ⊎ (state_after h s ≡ Clearing))
-IsAllowed walkers (Tracks s) h = (s < 256) × (state_after h s ≡ Reserved)
-IsAllowed walkers (Unlinks s) h = (s < 256) × (state_after h s ≡ Linked)
-IsAllowed walkers (Settles s) h = (s < 256) × (state_after h s ≡ Leaving)
+IsAllowed walkers (Reserves s) h = (s < most_records) × (state_after h s ≡ Free)
+IsAllowed walkers (Frees s) h = (s < most_records) × ((state_after h s ≡ Reserved) ⊎ (state_after h s ≡ Clearing))
+IsAllowed walkers (Tracks s) h = (s < most_records) × (state_after h s ≡ Reserved)
+IsAllowed walkers (Unlinks s) h = (s < most_records) × (state_after h s ≡ Linked)
+IsAllowed walkers (Settles s) h = (s < most_records) × (state_after h s ≡ Leaving)
 IsAllowed walkers (Snaps w) h = (w < walkers) × (living (snapshots h) w ≡ None)
-IsAllowed walkers (Unsnaps w) h = (w < 16) × IsSome (living (snapshots h) w)
+IsAllowed walkers (Unsnaps w) h = (w < most_walkers) × IsSome (living (snapshots h) w)
 
 -- each action met its condition, and the clock never ended
 abbrev pub IsLegal : ℕ → History → Type 0
-IsLegal walkers [] = walkers ≤ 16
-IsLegal walkers (a ∷ h) = IsAllowed walkers a h × (length h < 2 ^ 64 - 1) × IsLegal walkers h
+IsLegal walkers [] = walkers ≤ most_walkers
+IsLegal walkers (a ∷ h) = IsAllowed walkers a h × (length h < most_actions) × IsLegal walkers h
 
 -- the linked slots, newest first
 abbrev pub linked_slots : List RecordTimes → List ℕ
@@ -106,10 +107,10 @@ pub record Replays (h : History) (v : Contents) : Type 0 where
   pub legal : IsLegal v.walkers h
   pub clock : v.clock ≡ length h
   pub stamps : v.stamps ≡ stamps_given h
-  pub entries : (s : ℕ) → s < 256 → Fits h s (entry_in v.entries s)
+  pub entries : (s : ℕ) → s < most_records → Fits h s (entry_in v.entries s)
   pub head : number_of v.head ≡ head_after h
-  pub newer : (s : ℕ) → s < 256 → state_after h s ≡ Linked → StandsBehind (linked_slots (records h)) s (number_of (newer_of v s))
-  pub births : (w : ℕ) → w < 16 → option_map (λ b. b.ticks) (birth_of v w) ≡ living (snapshots h) w
+  pub newer : (s : ℕ) → s < most_records → state_after h s ≡ Linked → StandsBehind (linked_slots (records h)) s (number_of (newer_of v s))
+  pub births : (w : ℕ) → w < most_walkers → option_map (λ b. b.ticks) (birth_of v w) ≡ living (snapshots h) w
   pub queue : v.queue ≡ queue_after h
 
 -- a slot's record is deleted at this place, and at none before

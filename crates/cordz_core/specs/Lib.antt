@@ -1,3 +1,5 @@
+-- The definitions of this crate.
+pub mod Limits
 pub mod Contents
 pub mod History
 pub mod Inside

@@ -1,5 +1,6 @@
 -- The deletion queue as a list: its front, and what leaves it.
 use Rattle.std.specs.Prelude.{◌≡◌, ℕ, ◌+◌, ◌<◌, ◌==◌, ◌||◌, cond, Bool, false, List, [], ◌∷◌}
+use Rattle.cordz_core.specs.Limits.{most_records, most_walkers}
 use Rattle.cordz_core.specs.declared.queue.Waiting.{Waiting}
 use Rattle.cordz_core.specs.declared.queue.Waiting.TheVariants.{Snapshot, Record}
 
@@ -15,7 +16,7 @@ Apart (x ∷ xs) = (has x xs ≡ false) × Apart xs
 
 -- a number for each that may stand in the queue: a slot's own, a walker's above those
 abbrev pub code_of : Waiting → ℕ
-code_of (Snapshot w b) = 256 + w.number
+code_of (Snapshot w b) = most_records + w.number
 code_of (Record s p) = s.number
 
 abbrev pub codes : List Waiting → List ℕ
@@ -40,8 +41,8 @@ without_walker v [] = []
 without_walker v (Snapshot w b ∷ q) = cond (v == w.number) q (Snapshot w b ∷ without_walker v q)
 without_walker v (Record s p ∷ q) = Record s p ∷ without_walker v q
 
--- slots are below 256, and walkers below 16
+-- slots and walkers are below their limits
 abbrev pub AllFit : List Waiting → Type 0
 AllFit [] = Unit {0}
-AllFit (Snapshot w b ∷ q) = (w.number < 16) × AllFit q
-AllFit (Record s p ∷ q) = (s.number < 256) × AllFit q
+AllFit (Snapshot w b ∷ q) = (w.number < most_walkers) × AllFit q
+AllFit (Record s p ∷ q) = (s.number < most_records) × AllFit q

@@ -4,6 +4,7 @@
 
 mod answers;
 pub mod laws;
+mod limits;
 mod links;
 mod queue;
 mod registry;
@@ -12,6 +13,7 @@ mod slot;
 mod tests;
 
 pub use answers::{RecordsFull, Settled};
+pub use limits::{MOST_RECORDS, MOST_WALKERS};
 pub use queue::Waiting;
 pub use registry::Registry;
 pub use slot::{Clock, Entry, Slot, SlotState, Walker};

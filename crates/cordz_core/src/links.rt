@@ -2,11 +2,17 @@
 ghost use Rattle.std.specs.Prelude.{◌≡◌, ◌≤◌, ℕ, ◌<◌, length, All, IsNone, IfSome, MatchOption};
 ghost use Rattle.cordz_core.specs.Contents.{entry_in};
 ghost use Rattle.cordz_core.specs.Links.{pointed_back, pointed_on, head_left, cleared};
+ghost use Rattle.cordz_core.specs.Limits.{most_records};
 
+use crate::limits::MOST_RECORDS;
 use crate::slot::{Entry, Slot, SlotState};
 
 // The record of this slot points back to a newer one.
-pub(crate) fn point_back(newer: &mut [Option<Slot>; 256], slot: Option<Slot>, to: Option<Slot>)
+pub(crate) fn point_back(
+    newer: &mut [Option<Slot>; MOST_RECORDS],
+    slot: Option<Slot>,
+    to: Option<Slot>,
+)
     ensures { newer.new ≡ pointed_back newer.old slot to }
 {
     if let Some(slot) = slot {
@@ -15,7 +21,7 @@ pub(crate) fn point_back(newer: &mut [Option<Slot>; 256], slot: Option<Slot>, to
 }
 
 // The record of this slot points on to an older one.
-pub(crate) fn point_on(entries: &mut [Entry; 256], slot: Option<Slot>, to: Option<Slot>)
+pub(crate) fn point_on(entries: &mut [Entry; MOST_RECORDS], slot: Option<Slot>, to: Option<Slot>)
     ensures { entries.new ≡ pointed_on entries.old slot to }
 {
     if let Some(slot) = slot {
@@ -38,8 +44,8 @@ pub(crate) fn head_without(
 }
 
 // Marks slots whose records are deleted.
-pub(crate) fn clear(entries: &mut [Entry; 256], slots: &[u16])
-    requires { All (λ s. s < 256) slots.now }
+pub(crate) fn clear(entries: &mut [Entry; MOST_RECORDS], slots: &[u16])
+    requires { All (λ s. s < most_records) slots.now }
     ensures { entries.new ≡ cleared entries.old slots.now }
 {
     for slot in slots {
@@ -48,11 +54,11 @@ pub(crate) fn clear(entries: &mut [Entry; 256], slots: &[u16])
 }
 
 // The first free slot.
-pub(crate) fn first_free(entries: &[Entry; 256]) -> Option<u8>
+pub(crate) fn first_free(entries: &[Entry; MOST_RECORDS]) -> Option<u8>
     ensures found { IfSome result (λ s. (entry_in entries.now s).state ≡ SlotState.Free) }
-    ensures full { IsNone result → (s : ℕ) → s < 256 → (entry_in entries.now s).state ≡ SlotState.Free → ⊥ }
+    ensures full { IsNone result → (s : ℕ) → s < most_records → (entry_in entries.now s).state ≡ SlotState.Free → ⊥ }
 {
-    for at in 0..256usize {
+    for at in 0..MOST_RECORDS {
         if entries[at].state == SlotState::Free {
             return Some(at as u8);
         }

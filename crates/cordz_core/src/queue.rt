@@ -2,7 +2,9 @@
 ghost use Rattle.std.specs.Prelude.{◌≡◌, ℕ, ◌+◌, ◌≤◌, ◌<◌, true, length, drop, All, remove};
 ghost use Rattle.arrayvec.specs.ArrayVec.{array_vec_len};
 ghost use Rattle.cordz_core.specs.Queue.{Apart, AllFit, codes, leading, without_walker, has};
+ghost use Rattle.cordz_core.specs.Limits.{most_records, most_walkers};
 
+use crate::limits::{MOST_RECORDS, QUEUE_ROOM};
 use crate::slot::{Clock, Slot, Walker};
 use arrayvec::ArrayVec;
 
@@ -21,7 +23,7 @@ impl Default for Waiting {
 
 // The place of a walker's snapshot in the queue.
 pub(crate) fn place_of(queue: &[Waiting], walker: u8) -> usize
-    requires there { has (256 + walker) (codes queue.now) ≡ true }
+    requires there { has (most_records + walker) (codes queue.now) ≡ true }
     requires fit { AllFit queue.now }
     ensures within { result < length queue.now }
     ensures place { remove queue.now result ≡ without_walker walker queue.now }
@@ -40,12 +42,12 @@ pub(crate) fn place_of(queue: &[Waiting], walker: u8) -> usize
 }
 
 // The slots of the records at the front of a queue, up to the first snapshot.
-pub(crate) fn leading_records(queue: &[Waiting]) -> ArrayVec<u16, 256>
+pub(crate) fn leading_records(queue: &[Waiting]) -> ArrayVec<u16, MOST_RECORDS>
     requires apart { Apart (codes queue.now) }
     requires fit { AllFit queue.now }
     ensures items { result.items ≡ leading queue.now }
     ensures within { array_vec_len result ≤ length queue.now }
-    ensures slots { All (λ s. s < 256) result.items }
+    ensures slots { All (λ s. s < most_records) result.items }
 {
     let mut records = ArrayVec::new();
     for waiting in queue {
@@ -58,8 +60,8 @@ pub(crate) fn leading_records(queue: &[Waiting]) -> ArrayVec<u16, 256>
 }
 
 // The queue without its first entries.
-pub(crate) fn behind(queue: &[Waiting], first: usize) -> ArrayVec<Waiting, 272>
-    requires fits { length queue.now ≤ 272 }
+pub(crate) fn behind(queue: &[Waiting], first: usize) -> ArrayVec<Waiting, QUEUE_ROOM>
+    requires fits { length queue.now ≤ most_records + most_walkers }
     requires within { first ≤ length queue.now }
     ensures { result.items ≡ drop first queue.now }
 {

@@ -6,8 +6,10 @@ ghost use Rattle.cordz_core.specs.History.{History, Reserves, Frees, Tracks, Unl
 ghost use Rattle.cordz_core.specs.Legal.{Replays, IsDeletionOf, IsRisingFrom, head_after, next_after, settle_places};
 ghost use Rattle.cordz_core.specs.Links.{Moves, Begins, Ends, moved_to};
 ghost use Rattle.cordz_core.specs.Queue.{has, leading, without_walker};
+ghost use Rattle.cordz_core.specs.Limits.{most_actions, most_records, most_walkers};
 
 use crate::answers::{RecordsFull, Settled};
+use crate::limits::{MOST_RECORDS, MOST_WALKERS, QUEUE_ROOM};
 use crate::links::{clear, first_free, head_without, point_back, point_on};
 use crate::queue::{Waiting, behind, leading_records, place_of};
 use crate::slot::{Clock, Entry, Slot, SlotState, Walker};
@@ -21,10 +23,10 @@ pub struct Registry {
     clock: Clock,
     stamps: u64,
     head: Option<Slot>,
-    entries: [Entry; 256],
-    newer: [Option<Slot>; 256],
-    births: [Option<Clock>; 16],
-    queue: ArrayVec<Waiting, 272>,
+    entries: [Entry; MOST_RECORDS],
+    newer: [Option<Slot>; MOST_RECORDS],
+    births: [Option<Clock>; MOST_WALKERS],
+    queue: ArrayVec<Waiting, QUEUE_ROOM>,
 }
 
 impl Model for Registry {
@@ -42,7 +44,7 @@ impl Model for Registry {
 impl Registry {
     /// An empty registry, whose snapshots these walkers may hold: 0 to 16.
     pub fn new(walkers: u8) -> Registry
-        requires { walkers ≤ 16 }
+        requires { walkers ≤ most_walkers }
         ensures walkers { result.walkers ≡ walkers }
         ensures clock { result.clock ≡ 0 }
         ensures states { (s : ℕ) → state_of result s ≡ SlotState.Free }
@@ -54,9 +56,9 @@ impl Registry {
             clock: Clock { ticks: 0 },
             stamps: 0,
             head: None,
-            entries: [Entry::FREE; 256],
-            newer: [None; 256],
-            births: [None; 16],
+            entries: [Entry::FREE; MOST_RECORDS],
+            newer: [None; MOST_RECORDS],
+            births: [None; MOST_WALKERS],
             queue: ArrayVec::new(),
         }
     }
@@ -70,7 +72,7 @@ impl Registry {
 
     /// Where a slot stands.
     pub fn state(&self, slot: u16) -> SlotState
-        requires { slot < 256 }
+        requires { slot < most_records }
         ensures { result ≡ state_of self.now slot }
     {
         self.entries[slot as usize].state
@@ -79,14 +81,14 @@ impl Registry {
     /// How many walkers may hold a snapshot.
     pub fn walkers(&self) -> u8
         ensures same { result ≡ self.now.walkers }
-        ensures few { result ≤ 16 }
+        ensures few { result ≤ most_walkers }
     {
         self.walkers
     }
 
     /// Whether a walker holds a snapshot.
     pub fn is_walking(&self, walker: u8) -> bool
-        requires { walker < 16 }
+        requires { walker < most_walkers }
         ensures holds { IsTrue result ↔ IsSome (birth_of self.now walker) }
         ensures none { result ≡ false → birth_of self.now walker ≡ None }
     {
@@ -95,17 +97,19 @@ impl Registry {
 
     /// Gives a free slot and the next stamp.
     pub fn reserve(&mut self) -> Result<(u16, u64), RecordsFull>
-        requires { self.old.clock < 2 ^ 64 - 1 }
-        ensures free { IfOk result (λ r. (r.0 < 256) × (state_of self.old r.0 ≡ SlotState.Free)) }
+        requires { self.old.clock < most_actions }
+        ensures free { IfOk result (λ r. (r.0 < most_records) × (state_of self.old r.0 ≡ SlotState.Free)) }
         ensures stamp { IfOk result (λ r. (r.1 ≡ self.old.stamps + 1) × (self.new.stamps ≡ r.1)) }
         ensures moves { IfOk result (λ r. Moves self.old self.new r.0 SlotState.Reserved) }
-        ensures full { OnErr result ((s : ℕ) → s < 256 → state_of self.old s ≢ SlotState.Free) }
-        ensures in_use { IfErr result (λ e. e.in_use ≡ 256) }
+        ensures full { OnErr result ((s : ℕ) → s < most_records → state_of self.old s ≢ SlotState.Free) }
+        ensures in_use { IfErr result (λ e. e.in_use ≡ most_records) }
         ensures unchanged { OnErr result (self.new ≡ self.old) }
         ensures history { IfOk result (λ r. (h : History) → Replays h self.old → Replays (Reserves r.0 ∷ h) self.new) }
     {
         let Some(at) = first_free(&self.entries) else {
-            return Err(RecordsFull { in_use: 256 });
+            return Err(RecordsFull {
+                in_use: MOST_RECORDS as u16,
+            });
         };
         self.clock.ticks += 1;
         self.stamps += 1;
@@ -118,8 +122,8 @@ impl Registry {
 
     /// Gives a slot back that was reserved in vain, or whose record is cleared.
     pub fn free(&mut self, slot: u16)
-        requires slot { slot < 256 }
-        requires clock { self.old.clock < 2 ^ 64 - 1 }
+        requires slot { slot < most_records }
+        requires clock { self.old.clock < most_actions }
         requires unused { (state_of self.old slot ≡ SlotState.Reserved) ⊎ (state_of self.old slot ≡ SlotState.Clearing) }
         ensures moves { Moves self.old self.new slot SlotState.Free }
         ensures stamps { self.new.stamps ≡ self.old.stamps }
@@ -131,8 +135,8 @@ impl Registry {
 
     /// Links a record as the newest.
     pub fn track(&mut self, slot: u16)
-        requires slot { slot < 256 }
-        requires clock { self.old.clock < 2 ^ 64 - 1 }
+        requires slot { slot < most_records }
+        requires clock { self.old.clock < most_actions }
         requires reserved { state_of self.old slot ≡ SlotState.Reserved }
         ensures moves { Moves self.old self.new slot SlotState.Linked }
         ensures stamps { self.new.stamps ≡ self.old.stamps }
@@ -153,8 +157,8 @@ impl Registry {
 
     /// Takes a record out of the list. Its own next stays, so a walk that stands on it goes on.
     pub fn unlink(&mut self, slot: u16)
-        requires slot { slot < 256 }
-        requires clock { self.old.clock < 2 ^ 64 - 1 }
+        requires slot { slot < most_records }
+        requires clock { self.old.clock < most_actions }
         requires linked { state_of self.old slot ≡ SlotState.Linked }
         ensures moves { Moves self.old self.new slot SlotState.Leaving }
         ensures stamps { self.new.stamps ≡ self.old.stamps }
@@ -171,8 +175,8 @@ impl Registry {
 
     /// Gives an unlinked record up: it is deleted at once if no snapshot lives, and else waits in the queue.
     pub fn settle(&mut self, slot: u16) -> Settled
-        requires slot { slot < 256 }
-        requires clock { self.old.clock < 2 ^ 64 - 1 }
+        requires slot { slot < most_records }
+        requires clock { self.old.clock < most_actions }
         requires leaving { state_of self.old slot ≡ SlotState.Leaving }
         ensures deleted { (result ≡ Settled.Deleted) ↔ (self.old.queue ≡ []) }
         ensures moves { Moves self.old self.new slot (moved_to result) }
@@ -196,7 +200,7 @@ impl Registry {
     /// Begins a walker's snapshot: from now on no record that a walk of it may reach is deleted.
     pub fn snap(&mut self, walker: u8)
         requires walker { walker < self.old.walkers }
-        requires clock { self.old.clock < 2 ^ 64 - 1 }
+        requires clock { self.old.clock < most_actions }
         requires none { birth_of self.old walker ≡ None }
         ensures begins { Begins self.old self.new walker }
         ensures stamps { self.new.stamps ≡ self.old.stamps }
@@ -210,9 +214,9 @@ impl Registry {
     }
 
     /// Ends a walker's snapshot, and gives the slots of the records that waited for it alone, in the order of their settling.
-    pub fn unsnap(&mut self, walker: u8) -> ArrayVec<u16, 256>
-        requires walker { walker < 16 }
-        requires clock { self.old.clock < 2 ^ 64 - 1 }
+    pub fn unsnap(&mut self, walker: u8) -> ArrayVec<u16, MOST_RECORDS>
+        requires walker { walker < most_walkers }
+        requires clock { self.old.clock < most_actions }
         requires one { IsSome (birth_of self.old walker) }
         ensures deleted { result.items ≡ leading (without_walker walker self.old.queue) }
         ensures ends { Ends self.old self.new walker result.items }
@@ -244,7 +248,7 @@ impl Registry {
 
     /// The record behind this one in a walk.
     pub fn next(&self, slot: u16) -> Option<u16>
-        requires slot { slot < 256 }
+        requires slot { slot < most_records }
         requires walked { (state_of self.now slot ≡ SlotState.Linked)
             ⊎ ((state_of self.now slot ≡ SlotState.Leaving) ⊎ (state_of self.now slot ≡ SlotState.Queued)) }
         ensures { (h : History) → Replays h self.now → result ≡ next_after h slot }

@@ -22,6 +22,8 @@ mod pool;
 mod refusals;
 mod slices;
 #[cfg(test)]
+mod rule_tests;
+#[cfg(test)]
 mod slot_tests;
 mod slots;
 mod start;

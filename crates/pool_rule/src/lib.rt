@@ -5,8 +5,6 @@
 mod edge_marks;
 mod laws;
 mod marks;
-#[cfg(test)]
-mod tests;
 
 pub use edge_marks::{
     edge_changes_are_marks, edge_changes_keep_the_rule, edge_changes_trade_holds,

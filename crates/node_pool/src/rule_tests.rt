@@ -1,15 +1,11 @@
-//! The laws at a type of slots.
-use crate::edge_marks::{
+//! The laws of the table's rule, at a type of slots.
+use pool_rule::{
     edge_changes_are_marks, edge_changes_keep_the_rule, edge_changes_trade_holds,
-    held_edges_may_come,
+    held_edges_may_come, held_numbers_are_in_use, idle_pools_are_empty, marks_are_the_count_rules,
+    marks_keep_the_rule, numbers_in_use_are_held, passes_keep_the_rule, pools_start_ruled,
+    steps_are_the_count_rules, steps_keep_the_rule, tokens_divide, weights_tell_holds,
+    whole_tokens_know_all_boxes, whole_tokens_know_all_steps, worlds_are_the_tables,
 };
-use crate::laws::{
-    held_numbers_are_in_use, idle_pools_are_empty, numbers_in_use_are_held, passes_keep_the_rule,
-    pools_start_ruled, steps_are_the_count_rules, steps_keep_the_rule, tokens_divide,
-    weights_tell_holds, whole_tokens_know_all_boxes, whole_tokens_know_all_steps,
-    worlds_are_the_tables,
-};
-use crate::marks::{marks_are_the_count_rules, marks_keep_the_rule};
 
 #[test]
 fn laws_hold_of_slots_of_a_type(_rt: HostRuntime) {
