@@ -1,5 +1,5 @@
 -- What a session's board actions are, by itself, from what the board and the names tell of them.
-use Rattle.std.proofs.Common.{◌≡◌, ◌∙◌, sym, ap, subst, refl, ℕ, ◌+◌, List, [], ◌∷◌, ◌++◌, map, length, Option, Some, None, Result, Ok, Err, Bool, true, false, length-append, arith}
+use Rattle.std.proofs.Common.{◌≡◌, ◌∙◌, sym, ap, subst, refl, ℕ, ◌+◌, List, [], ◌∷◌, ◌++◌, map, length, Option, Some, None, Result, Ok, Err, Bool, true, false, length-append, arith, ◌<◌}
 use Rattle.std.specs.Prelude.{IsSome, IsNone, IsSomeAnd, MatchOption, IfOk, if◌then◌else◌, cond}
 use Rattle.std.specs.Option.{option_map}
 use Rattle.std.specs.Str.{bytes_eq}
@@ -10,6 +10,7 @@ use Rattle.plain_cord.specs.declared.script.Command.TheVariants as commands
 use Rattle.plain_cord.specs.declared.reply.Reply.{Reply}
 use Rattle.plain_cord.specs.declared.reply.Reply.TheVariants as replies
 use Rattle.plain_cord.specs.declared.reply.NewMark.TheVariants as marks
+use Rattle.plain_cord.specs.declared.history.Act.{Act}
 use Rattle.plain_cord.specs.declared.history.Act.TheVariants.{Put, Take, Peek, Swap}
 use Rattle.plain_cord.specs.declared.deed.Deed.{Deed}
 use Rattle.plain_cord.specs.States.{CordState, Environment, SameNames, empty_cord, with_name}
@@ -21,7 +22,9 @@ use Rattle.plain_cord.proofs.AloneLaws.{steps-quiet, put-alone, put-unset, take-
 use Rattle.cord_board.specs.declared.view.BoardView.{BoardView}
 use Rattle.cord_board.specs.Views.{session_of, mine_of, next_place, Did}
 use Rattle.board_sessions.specs.declared.board_cord.BoardCord.{BoardCord}
-use Rattle.board_sessions.specs.Boarding.{state_in, did_of, at_work, Advances}
+use Rattle.script_words.specs.Forms.{IsWithin}
+use Rattle.plain_session.specs.Commands.{command_on}
+use Rattle.board_sessions.specs.Boarding.{state_in, did_of, at_work, entries_for, Advances}
 
 abbrev pub View : Type 0
 View = BoardView BoardCord
@@ -140,6 +143,18 @@ something-there y P Q None told = cc
 something-there y P Q (Some x) told = (x, refl, told)
 
 -- a command on byte strings alone
-pub ran-advances : {E : Type 0} (v : View) (names after : Environment) (command : Command) (r : Result Reply E) → IfOk r (λ reply. PlainStep names command after reply) → IfOk r (λ reply. Advances v v names after command reply)
-ran-advances v names after command (Ok reply) step = advances-quiet v names after command reply (steps-quiet (session_of v) (at_work v names) command reply after step)
-ran-advances v names after command (Err e) step = tt
+pub reply-advances : (v : View) (names after : Environment) (command : Command) (reply : Reply) → PlainStep names command after reply → Advances v v names after command reply
+reply-advances v names after command reply step = advances-quiet v names after command reply (steps-quiet (session_of v) (at_work v names) command reply after step)
+
+-- a command on a cell, by its act
+pub cell-within : (act : Act) (cell : ℕ) (a : List ℕ) → IsWithin (command_on act cell a) → cell < 64
+cell-within Put cell a within = within
+cell-within Take cell a within = within
+cell-within Peek cell a within = within
+cell-within Swap cell a within = within
+
+pub cell-entry : (act : Act) (cell : ℕ) (a : List ℕ) → entries_for (command_on act cell a) ≡ 1
+cell-entry Put cell a = refl
+cell-entry Take cell a = refl
+cell-entry Peek cell a = refl
+cell-entry Swap cell a = refl

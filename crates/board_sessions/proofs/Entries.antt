@@ -1,39 +1,18 @@
 -- How many entries commands and sessions may need.
-use Rattle.std.proofs.Common.{◌≡◌, ◌∙◌, sym, ap, refl, ℕ, zero, suc, ◌+◌, ◌≤◌, List, [], ◌∷◌, ◌++◌, length, take, drop, get_or, arith}
+use Rattle.std.proofs.Common.{◌≡◌, ◌∙◌, sym, ap, refl, ℕ, zero, suc, ◌+◌, ◌≤◌, List, [], ◌∷◌, ◌++◌, length, take, drop, get_or, arith, Option, Some, None}
 use Rattle.plain_cord.specs.declared.script.Command.{Command}
-use Rattle.plain_cord.specs.declared.script.Command.TheVariants as commands
 use Rattle.plain_cord.specs.declared.script.Session.{Session}
-use Rattle.board_sessions.specs.Boarding.{entries_for, entries_for_all}
+use Rattle.plain_cord.specs.declared.history.Act.{Act}
+use Rattle.plain_cord.specs.Outcomes.{asked_action}
+use Rattle.board_sessions.specs.Boarding.{entries_in, entries_for, entries_for_all}
 use Rattle.board_sessions.specs.Chairs.{entries_for_sessions}
 
+few-in : (asked : Option (Act × ℕ)) → entries_in asked ≤ 1
+few-in None = omega arith
+few-in (Some asked) = omega arith
+
 pub one-entry : (command : Command) → entries_for command ≤ 1
-one-entry (commands.Put a cell) = omega arith
-one-entry (commands.Take cell a) = omega arith
-one-entry (commands.Peek cell a) = omega arith
-one-entry (commands.Swap a cell) = omega arith
-one-entry (commands.Let a text) = omega arith
-one-entry (commands.Ext a text) = omega arith
-one-entry (commands.Copy a b) = omega arith
-one-entry (commands.Sub a pos n b) = omega arith
-one-entry (commands.Clear a) = omega arith
-one-entry (commands.Append a text) = omega arith
-one-entry (commands.Prepend a text) = omega arith
-one-entry (commands.Join a b) = omega arith
-one-entry (commands.JoinFront a b) = omega arith
-one-entry (commands.CutFront a n) = omega arith
-one-entry (commands.CutBack a n) = omega arith
-one-entry (commands.SetSum a value) = omega arith
-one-entry (commands.Sum a) = omega arith
-one-entry (commands.Size a) = omega arith
-one-entry (commands.Print a) = omega arith
-one-entry (commands.At a i) = omega arith
-one-entry (commands.Find a text) = omega arith
-one-entry (commands.Compare a b) = omega arith
-one-entry (commands.Starts a text) = omega arith
-one-entry (commands.Ends a text) = omega arith
-one-entry commands.Snap = omega arith
-one-entry commands.Walk = omega arith
-one-entry commands.Unsnap = omega arith
+one-entry command = few-in (asked_action command)
 
 pub few-entries : (said : List Command) → entries_for_all said ≤ length said
 few-entries [] = omega arith

@@ -1,11 +1,12 @@
 -- A session at work on the board.
-use Rattle.std.specs.Prelude.{◌≡◌, ℕ, ◌≤◌, ◌+◌, List, [], ◌∷◌, ◌++◌, map, length}
+use Rattle.std.specs.Prelude.{◌≡◌, ℕ, ◌≤◌, ◌+◌, List, [], ◌∷◌, ◌++◌, map, length, Option, Some, None}
 use Rattle.plain_cord.specs.declared.script.Command.{Command}
-use Rattle.plain_cord.specs.declared.script.Command.TheVariants as commands
 use Rattle.plain_cord.specs.declared.reply.Reply.{Reply}
 use Rattle.plain_cord.specs.declared.reply.Book.{Book}
+use Rattle.plain_cord.specs.declared.history.Act.{Act}
 use Rattle.plain_cord.specs.declared.deed.Deed.{Deed}
 use Rattle.plain_cord.specs.States.{CordState, Environment}
+use Rattle.plain_cord.specs.Outcomes.{asked_action}
 use Rattle.plain_cord.specs.Deeds.{mapped_deed}
 use Rattle.plain_cord.specs.Effects.{SessionState, new_session}
 use Rattle.plain_cord.specs.RunOrders.{lines}
@@ -27,12 +28,12 @@ abbrev pub at_work : BoardView BoardCord → Environment → SessionState
 at_work v names = record { names = names; acted = length (mine_of v) }
 
 -- how many entries a command may need
+abbrev pub entries_in : Option (Act × ℕ) → ℕ
+entries_in None = 0
+entries_in (Some asked) = 1
+
 abbrev pub entries_for : Command → ℕ
-entries_for (commands.Put a cell) = 1
-entries_for (commands.Take cell a) = 1
-entries_for (commands.Peek cell a) = 1
-entries_for (commands.Swap a cell) = 1
-entries_for _ = 0
+entries_for command = entries_in (asked_action command)
 
 abbrev pub entries_for_all : List Command → ℕ
 entries_for_all [] = 0

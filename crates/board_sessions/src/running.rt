@@ -5,7 +5,8 @@ ghost use Rattle.plain_cord.specs.declared.script.Session.{Session as Session_va
 ghost use Rattle.plain_cord.specs.Runs.{IsPlainRun};
 ghost use Rattle.cord_board.specs.Passes.{board_view, IsOn};
 ghost use Rattle.cord_board.specs.Views.{has, gave_of, joined_of, cleared_of, IsLast};
-ghost use Rattle.board_sessions.specs.Runnable.{IsRunnable, IsRunnableSession};
+ghost use Rattle.board_sessions.specs.Runnable.{IsRunnableSession};
+ghost use Rattle.script_words.specs.Forms.{IsWithin};
 ghost use Rattle.board_sessions.specs.Chairs.{entries_for_sessions, Starts, Ends};
 ghost use Rattle.board_sessions.specs.declared.chairs.Chair.{Chair as Chair_value};
 
@@ -30,7 +31,7 @@ fn run_all<R: Threads + Wait + Sync, G: Gate + Sync>(
     chairs: &mut [Chair],
 )
     requires len { length chairs.old ≡ length sessions.now }
-    requires runnable { (p : ℕ) (s : Session_value) → p < length sessions.now → All IsRunnable (slice_index_or sessions.now p s).commands }
+    requires runnable { (p : ℕ) (s : Session_value) → p < length sessions.now → All IsWithin (slice_index_or sessions.now p s).commands }
     requires starts { (p : ℕ) (s : Session_value) (c : Chair_value) → p < length sessions.now → Starts board.now (slice_index_or sessions.now p s).commands p (slice_index_or chairs.old p c) }
     ensures { (p : ℕ) (s : Session_value) (c : Chair_value) → p < length sessions.now → Ends board.now (slice_index_or sessions.now p s).commands p (slice_index_or chairs.new p c) }
 {
@@ -40,7 +41,7 @@ fn run_all<R: Threads + Wait + Sync, G: Gate + Sync>(
     }
     let session = |i: usize, chair: &mut Chair|
         requires len { i < length sessions.now }
-        requires runnable { (s : Session_value) → All IsRunnable (slice_index_or sessions.now i s).commands }
+        requires runnable { (s : Session_value) → All IsWithin (slice_index_or sessions.now i s).commands }
         requires starts { (s : Session_value) → Starts board.now (slice_index_or sessions.now i s).commands i chair.now }
         ensures { (s : Session_value) → Ends board.entry.now (slice_index_or sessions.entry.now i s).commands i chair.exit.now }
     {

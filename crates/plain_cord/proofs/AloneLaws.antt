@@ -11,11 +11,11 @@ use Rattle.plain_cord.specs.declared.history.Act.{Act}
 use Rattle.plain_cord.specs.declared.history.Act.TheVariants.{Put, Take, Peek, Swap}
 use Rattle.plain_cord.specs.declared.deed.Deed.{Deed}
 use Rattle.plain_cord.specs.States.{CordState, Environment, SameNames, empty_cord, with_name}
-use Rattle.plain_cord.specs.Outcomes.{Outcome, answered, outcome}
+use Rattle.plain_cord.specs.Outcomes.{Outcome, answered, Meaning, Sets, Copies, Derives, Edits, Joins, Tells, Asks, Compares, OnCell, meaning, outcome_of, action_in}
 use Rattle.plain_cord.specs.Steps.{IsOutcome, PlainStep}
 use Rattle.plain_cord.specs.Deeds.{deed}
-use Rattle.plain_cord.specs.Effects.{SessionState, Cells, Effect, held_in, apart, acting, with_own, with_given, done_or_empty, brought, effect, PlainEffect}
-use Rattle.plain_cord.specs.RunOrders.{Line, acts, lines}
+use Rattle.plain_cord.specs.Effects.{SessionState, Cells, Effect, held_in, apart, acting, with_own, with_given, done_or_empty, brought, effect, effect_of, PlainEffect}
+use Rattle.plain_cord.specs.RunOrders.{Line, acts, acts_by, lines}
 use Rattle.plain_cord.specs.Alone.{StepsAlone, RunsAlone}
 
 -- a session with other names
@@ -32,34 +32,28 @@ quiet-line : (p : ℕ) (state : SessionState) (command : Command) (reply : Reply
     → ((cells : Cells) → effect p state cells command ≡ Some (record { state = named state after; cells = cells; entries = []; reply = reply })) → StepsAlone p state (command, reply) [] (named state after)
 quiet-line p state command reply after quiet h = record { acted = quiet; short = inl refl; plain = λ cells wide legal. h cells }
 
+-- a line that its outcome tells
+outcome-line : (p : ℕ) (state : SessionState) (command : Command) (means : Meaning) (reply : Reply) (after : Environment) → meaning command ≡ means → acts_by (action_in means) reply ≡ false
+    → ((cells : Cells) → effect_of p state cells means ≡ option_map (apart state cells) (outcome_of state.names means)) → IsOutcome (outcome_of state.names means) after reply
+    → StepsAlone p state (command, reply) [] (named state after)
+outcome-line p state command means reply after is quiet apart-so step =
+    quiet-line p state command reply after (ap (λ (m : Meaning). acts_by (action_in m) reply) is ∙ quiet)
+    (λ cells. ap (effect_of p state cells) is ∙ apart-so cells ∙ apart-outcome state cells (outcome_of state.names means) after reply step)
+
+steps-meant : (p : ℕ) (state : SessionState) (command : Command) (means : Meaning) (reply : Reply) (after : Environment) → meaning command ≡ means → IsOutcome (outcome_of state.names means) after reply
+    → StepsAlone p state (command, reply) [] (named state after)
+steps-meant p state command (Sets a bytes) reply after is step = outcome-line p state command _ reply after is refl (λ cells. refl) step
+steps-meant p state command (Copies a b) reply after is step = outcome-line p state command _ reply after is refl (λ cells. refl) step
+steps-meant p state command (Derives a make b) reply after is step = outcome-line p state command _ reply after is refl (λ cells. refl) step
+steps-meant p state command (Edits a change) reply after is step = outcome-line p state command _ reply after is refl (λ cells. refl) step
+steps-meant p state command (Joins a b make) reply after is step = outcome-line p state command _ reply after is refl (λ cells. refl) step
+steps-meant p state command (Tells a) reply after is step = outcome-line p state command _ reply after is refl (λ cells. refl) step
+steps-meant p state command (Asks a answer) reply after is step = outcome-line p state command _ reply after is refl (λ cells. refl) step
+steps-meant p state command (Compares a b answer) reply after is step = outcome-line p state command _ reply after is refl (λ cells. refl) step
+steps-meant p state command (OnCell act cell a) reply after is step = absurd step
+
 pub steps-quiet : (p : ℕ) (state : SessionState) (command : Command) (reply : Reply) (after : Environment) → PlainStep state.names command after reply → StepsAlone p state (command, reply) [] (named state after)
-steps-quiet p state (commands.Let a text) reply after step = quiet-line p state _ reply after refl (λ cells. apart-outcome state cells (outcome state.names (commands.Let a text)) after reply step)
-steps-quiet p state (commands.Ext a text) reply after step = absurd step
-steps-quiet p state (commands.Copy a b) reply after step = quiet-line p state _ reply after refl (λ cells. apart-outcome state cells (outcome state.names (commands.Copy a b)) after reply step)
-steps-quiet p state (commands.Sub a pos n b) reply after step = quiet-line p state _ reply after refl (λ cells. apart-outcome state cells (outcome state.names (commands.Sub a pos n b)) after reply step)
-steps-quiet p state (commands.Clear a) reply after step = quiet-line p state _ reply after refl (λ cells. apart-outcome state cells (outcome state.names (commands.Clear a)) after reply step)
-steps-quiet p state (commands.Append a text) reply after step = quiet-line p state _ reply after refl (λ cells. apart-outcome state cells (outcome state.names (commands.Append a text)) after reply step)
-steps-quiet p state (commands.Prepend a text) reply after step = quiet-line p state _ reply after refl (λ cells. apart-outcome state cells (outcome state.names (commands.Prepend a text)) after reply step)
-steps-quiet p state (commands.Join a b) reply after step = quiet-line p state _ reply after refl (λ cells. apart-outcome state cells (outcome state.names (commands.Join a b)) after reply step)
-steps-quiet p state (commands.JoinFront a b) reply after step = quiet-line p state _ reply after refl (λ cells. apart-outcome state cells (outcome state.names (commands.JoinFront a b)) after reply step)
-steps-quiet p state (commands.CutFront a n) reply after step = quiet-line p state _ reply after refl (λ cells. apart-outcome state cells (outcome state.names (commands.CutFront a n)) after reply step)
-steps-quiet p state (commands.CutBack a n) reply after step = quiet-line p state _ reply after refl (λ cells. apart-outcome state cells (outcome state.names (commands.CutBack a n)) after reply step)
-steps-quiet p state (commands.SetSum a value) reply after step = quiet-line p state _ reply after refl (λ cells. apart-outcome state cells (outcome state.names (commands.SetSum a value)) after reply step)
-steps-quiet p state (commands.Sum a) reply after step = quiet-line p state _ reply after refl (λ cells. apart-outcome state cells (outcome state.names (commands.Sum a)) after reply step)
-steps-quiet p state (commands.Size a) reply after step = quiet-line p state _ reply after refl (λ cells. apart-outcome state cells (outcome state.names (commands.Size a)) after reply step)
-steps-quiet p state (commands.Print a) reply after step = quiet-line p state _ reply after refl (λ cells. apart-outcome state cells (outcome state.names (commands.Print a)) after reply step)
-steps-quiet p state (commands.At a n) reply after step = quiet-line p state _ reply after refl (λ cells. apart-outcome state cells (outcome state.names (commands.At a n)) after reply step)
-steps-quiet p state (commands.Find a text) reply after step = quiet-line p state _ reply after refl (λ cells. apart-outcome state cells (outcome state.names (commands.Find a text)) after reply step)
-steps-quiet p state (commands.Compare a b) reply after step = quiet-line p state _ reply after refl (λ cells. apart-outcome state cells (outcome state.names (commands.Compare a b)) after reply step)
-steps-quiet p state (commands.Starts a text) reply after step = quiet-line p state _ reply after refl (λ cells. apart-outcome state cells (outcome state.names (commands.Starts a text)) after reply step)
-steps-quiet p state (commands.Ends a text) reply after step = quiet-line p state _ reply after refl (λ cells. apart-outcome state cells (outcome state.names (commands.Ends a text)) after reply step)
-steps-quiet p state (commands.Put a cell) reply after step = absurd step
-steps-quiet p state (commands.Take cell a) reply after step = absurd step
-steps-quiet p state (commands.Peek cell a) reply after step = absurd step
-steps-quiet p state (commands.Swap a cell) reply after step = absurd step
-steps-quiet p state commands.Snap reply after step = absurd step
-steps-quiet p state commands.Walk reply after step = absurd step
-steps-quiet p state commands.Unsnap reply after step = absurd step
+steps-quiet p state command reply after step = steps-meant p state command (meaning command) reply after refl step
 
 -- a command on a cell that reads a name which was never set
 pub put-unset : (p : ℕ) (state : SessionState) (a : List ℕ) (cell : ℕ) (after : Environment) → state.names a ≡ None → SameNames after state.names

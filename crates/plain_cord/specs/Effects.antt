@@ -1,7 +1,6 @@
 -- What a command of a session does to its names and to the board's cells, what it adds to the history, and what it answers.
 use Rattle.std.specs.Prelude.{◌≡◌, ℕ, ◌+◌, List, [], ◌∷◌, length, slice_get, slice_set, unwrap_or, Option, Some, None, option_map}
 use Rattle.plain_cord.specs.declared.script.Command.{Command}
-use Rattle.plain_cord.specs.declared.script.Command.TheVariants as commands
 use Rattle.plain_cord.specs.declared.reply.NewMark.TheVariants as marks
 use Rattle.plain_cord.specs.declared.reply.Reply.{Reply}
 use Rattle.plain_cord.specs.declared.reply.Reply.TheVariants as replies
@@ -9,7 +8,7 @@ use Rattle.plain_cord.specs.declared.history.Act.{Act}
 use Rattle.plain_cord.specs.declared.history.Act.TheVariants.{Put, Take, Peek, Swap}
 use Rattle.plain_cord.specs.declared.history.Entry.{Entry}
 use Rattle.plain_cord.specs.States.{CordState, Environment, empty_cord, no_names, with_name}
-use Rattle.plain_cord.specs.Outcomes.{Outcome, answered, outcome}
+use Rattle.plain_cord.specs.Outcomes.{Outcome, answered, Meaning, OnCell, meaning, outcome_of}
 use Rattle.plain_cord.specs.Deeds.{deed, after_of, entry_of}
 
 -- a session between two commands
@@ -70,13 +69,16 @@ abbrev pub brought : CordState → Option CordState → Option CordState
 brought cord None = None
 brought cord (Some x) = Some cord
 
--- of a command of the session p; None: it needs more than byte strings and the board
+-- of the session p; None: it needs more than byte strings and the board
+abbrev pub effect_of : ℕ → SessionState → Cells → Meaning → Option Effect
+effect_of p state cells (OnCell Put cell a) = Some (with_own state cells a (state.names a) (λ cord. acting p state cells Put cell (Some cord) (held_in cells cell) (with_name state.names a empty_cord) (replies.Done marks.Plain None)))
+effect_of p state cells (OnCell Take cell a) = Some (let was = held_in cells cell in acting p state cells Take cell None was (with_given state.names a was) (done_or_empty cell was))
+effect_of p state cells (OnCell Peek cell a) = Some (let was = held_in cells cell in acting p state cells Peek cell None was (with_given state.names a was) (done_or_empty cell was))
+effect_of p state cells (OnCell Swap cell a) = Some (with_own state cells a (state.names a) (λ cord. let was = held_in cells cell in acting p state cells Swap cell (brought cord was) was (with_given state.names a was) (done_or_empty cell was)))
+effect_of p state cells means = option_map (apart state cells) (outcome_of state.names means)
+
 abbrev pub effect : ℕ → SessionState → Cells → Command → Option Effect
-effect p state cells (commands.Put a cell) = Some (with_own state cells a (state.names a) (λ cord. acting p state cells Put cell (Some cord) (held_in cells cell) (with_name state.names a empty_cord) (replies.Done marks.Plain None)))
-effect p state cells (commands.Take cell a) = Some (let was = held_in cells cell in acting p state cells Take cell None was (with_given state.names a was) (done_or_empty cell was))
-effect p state cells (commands.Peek cell a) = Some (let was = held_in cells cell in acting p state cells Peek cell None was (with_given state.names a was) (done_or_empty cell was))
-effect p state cells (commands.Swap a cell) = Some (with_own state cells a (state.names a) (λ cord. let was = held_in cells cell in acting p state cells Swap cell (brought cord was) was (with_given state.names a was) (done_or_empty cell was)))
-effect p state cells command = option_map (apart state cells) (outcome state.names command)
+effect p state cells command = effect_of p state cells (meaning command)
 
 -- the command of the session p may do this
 abbrev pub PlainEffect : ℕ → SessionState → Cells → Command → Effect → Type 0

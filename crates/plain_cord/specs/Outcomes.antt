@@ -8,6 +8,8 @@ use Rattle.std.specs.declared.cmp.Ordering.TheVariants as orders
 use Rattle.plain_cord.specs.declared.limits.TheConstants.{MOST_BYTES, MOST_SHOWN}
 use Rattle.plain_cord.specs.declared.script.Command.{Command}
 use Rattle.plain_cord.specs.declared.script.Command.TheVariants as commands
+use Rattle.plain_cord.specs.declared.history.Act.{Act}
+use Rattle.plain_cord.specs.declared.history.Act.TheVariants.{Put, Take, Peek, Swap}
 use Rattle.plain_cord.specs.declared.reply.NewMark.TheVariants as marks
 use Rattle.plain_cord.specs.declared.reply.Reply.{Reply}
 use Rattle.plain_cord.specs.declared.reply.Reply.TheVariants as replies
@@ -90,25 +92,88 @@ order_reply orders.Greater = replies.Greater
 abbrev pub shown : List ℕ → Reply
 shown bytes = replies.Shown (take MOST_SHOWN bytes) (length bytes - MOST_SHOWN)
 
--- None: the command needs more than byte strings
+-- ---- what each command means
+
+-- what a command makes of one cord
+pub data Change : Type 0 where
+  Clears : Change
+  -- the bytes become those that it makes of them, unless they are too many
+  Grows : (make : List ℕ → List ℕ) → Change
+  -- so many bytes are taken off, where there are so many, and these are left
+  Cuts : (n : ℕ) (make : List ℕ → List ℕ) → Change
+  Sums : (value : ℕ) → Change
+
+abbrev pub edited_by : CordState → Change → Edited
+edited_by cord Clears = edited empty_cord
+edited_by cord (Grows make) = grown cord (make cord.bytes)
+edited_by cord (Cuts n make) = cut cord n (make cord.bytes)
+edited_by cord (Sums value) = with_sum cord value
+
+-- what a command does, by which names it reads and sets
+pub data Meaning : Type 0 where
+  -- sets a to these bytes
+  Sets : (a bytes : List ℕ) → Meaning
+  -- sets b to the cord of a, sum included
+  Copies : (a b : List ℕ) → Meaning
+  -- sets b to the bytes that it makes of those of a
+  Derives : (a : List ℕ) (make : List ℕ → List ℕ) (b : List ℕ) → Meaning
+  -- changes the cord of a
+  Edits : (a : List ℕ) (change : Change) → Meaning
+  -- the bytes of a become those that it makes of them and those of b, unless they are too many
+  Joins : (a b : List ℕ) (make : List ℕ → List ℕ → List ℕ) → Meaning
+  -- tells the sum of a
+  Tells : (a : List ℕ) → Meaning
+  -- asks about the bytes of a
+  Asks : (a : List ℕ) (answer : List ℕ → Reply) → Meaning
+  -- asks about the bytes of a and b
+  Compares : (a b : List ℕ) (answer : List ℕ → List ℕ → Reply) → Meaning
+  -- exchanges the cord of a with what lies in a cell of the board
+  OnCell : (act : Act) (cell : ℕ) (a : List ℕ) → Meaning
+
+abbrev pub meaning : Command → Meaning
+meaning (commands.Let a text) = Sets a (text_bytes text)
+meaning (commands.Copy a b) = Copies a b
+meaning (commands.Sub a pos n b) = Derives a (λ bytes. take n (drop pos bytes)) b
+meaning (commands.Clear a) = Edits a Clears
+meaning (commands.Append a text) = Edits a (Grows (λ bytes. bytes ++ text_bytes text))
+meaning (commands.Prepend a text) = Edits a (Grows (λ bytes. text_bytes text ++ bytes))
+meaning (commands.Join a b) = Joins a b (λ bytes others. bytes ++ others)
+meaning (commands.JoinFront a b) = Joins a b (λ bytes others. others ++ bytes)
+meaning (commands.CutFront a n) = Edits a (Cuts n (λ bytes. drop n bytes))
+meaning (commands.CutBack a n) = Edits a (Cuts n (λ bytes. take (length bytes - n) bytes))
+meaning (commands.SetSum a value) = Edits a (Sums value)
+meaning (commands.Sum a) = Tells a
+meaning (commands.Size a) = Asks a (λ bytes. replies.Number (length bytes))
+meaning (commands.Print a) = Asks a shown
+meaning (commands.At a i) = Asks a (λ bytes. byte_or_position i (length bytes) (slice_get bytes i))
+meaning (commands.Find a text) = Asks a (λ bytes. number_or_none (place_of bytes (text_bytes text)))
+meaning (commands.Compare a b) = Compares a b (λ bytes others. order_reply (slice_cmp nat_cmp bytes others))
+meaning (commands.Starts a text) = Asks a (λ bytes. yes_or_no (starts_with nat_eq bytes (text_bytes text)))
+meaning (commands.Ends a text) = Asks a (λ bytes. yes_or_no (ends_with nat_eq bytes (text_bytes text)))
+meaning (commands.Put a cell) = OnCell Put cell a
+meaning (commands.Take cell a) = OnCell Take cell a
+meaning (commands.Peek cell a) = OnCell Peek cell a
+meaning (commands.Swap a cell) = OnCell Swap cell a
+
+-- None: it needs the board
+abbrev pub outcome_of : Environment → Meaning → Option Outcome
+outcome_of names (Sets a bytes) = Some (done (with_name names a (plain bytes)))
+outcome_of names (Copies a b) = Some (with_cord names a (λ cord. done (with_name names b cord)))
+outcome_of names (Derives a make b) = Some (with_cord names a (λ cord. done (with_name names b (plain (make cord.bytes)))))
+outcome_of names (Edits a change) = Some (with_cord names a (λ cord. keeping names a (edited_by cord change)))
+outcome_of names (Joins a b make) = Some (with_cord names a (λ cord. with_cord names b (λ other. keeping names a (grown cord (make cord.bytes other.bytes)))))
+outcome_of names (Tells a) = Some (with_cord names a (λ cord. answered names (sum_or_none cord.sum)))
+outcome_of names (Asks a answer) = Some (with_cord names a (λ cord. answered names (answer cord.bytes)))
+outcome_of names (Compares a b answer) = Some (with_cord names a (λ cord. with_cord names b (λ other. answered names (answer cord.bytes other.bytes))))
+outcome_of names (OnCell act cell a) = None
+
 abbrev pub outcome : Environment → Command → Option Outcome
-outcome names (commands.Let a text) = Some (done (with_name names a (plain (text_bytes text))))
-outcome names (commands.Copy a b) = Some (with_cord names a (λ cord. done (with_name names b cord)))
-outcome names (commands.Sub a pos n b) = Some (with_cord names a (λ cord. done (with_name names b (plain (take n (drop pos cord.bytes))))))
-outcome names (commands.Clear a) = Some (with_cord names a (λ cord. keeping names a (edited empty_cord)))
-outcome names (commands.Append a text) = Some (with_cord names a (λ cord. keeping names a (grown cord (cord.bytes ++ text_bytes text))))
-outcome names (commands.Prepend a text) = Some (with_cord names a (λ cord. keeping names a (grown cord (text_bytes text ++ cord.bytes))))
-outcome names (commands.Join a b) = Some (with_cord names a (λ cord. with_cord names b (λ other. keeping names a (grown cord (cord.bytes ++ other.bytes)))))
-outcome names (commands.JoinFront a b) = Some (with_cord names a (λ cord. with_cord names b (λ other. keeping names a (grown cord (other.bytes ++ cord.bytes)))))
-outcome names (commands.CutFront a n) = Some (with_cord names a (λ cord. keeping names a (cut_front cord n)))
-outcome names (commands.CutBack a n) = Some (with_cord names a (λ cord. keeping names a (cut_back cord n)))
-outcome names (commands.SetSum a value) = Some (with_cord names a (λ cord. keeping names a (with_sum cord value)))
-outcome names (commands.Sum a) = Some (with_cord names a (λ cord. answered names (sum_or_none cord.sum)))
-outcome names (commands.Size a) = Some (with_cord names a (λ cord. answered names (replies.Number (length cord.bytes))))
-outcome names (commands.Print a) = Some (with_cord names a (λ cord. answered names (shown cord.bytes)))
-outcome names (commands.At a i) = Some (with_cord names a (λ cord. answered names (byte_or_position i (length cord.bytes) (slice_get cord.bytes i))))
-outcome names (commands.Find a text) = Some (with_cord names a (λ cord. answered names (number_or_none (place_of cord.bytes (text_bytes text)))))
-outcome names (commands.Compare a b) = Some (with_cord names a (λ cord. with_cord names b (λ other. answered names (order_reply (slice_cmp nat_cmp cord.bytes other.bytes)))))
-outcome names (commands.Starts a text) = Some (with_cord names a (λ cord. answered names (yes_or_no (starts_with nat_eq cord.bytes (text_bytes text)))))
-outcome names (commands.Ends a text) = Some (with_cord names a (λ cord. answered names (yes_or_no (ends_with nat_eq cord.bytes (text_bytes text)))))
-outcome names _ = None
+outcome names command = outcome_of names (meaning command)
+
+-- what a command asks to be done to which cell
+abbrev pub action_in : Meaning → Option (Act × ℕ)
+action_in (OnCell act cell a) = Some (act, cell)
+action_in _ = None
+
+abbrev pub asked_action : Command → Option (Act × ℕ)
+asked_action command = action_in (meaning command)

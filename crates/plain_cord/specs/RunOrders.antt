@@ -1,12 +1,13 @@
 -- The order in which the commands of a run are done, as far as the board's history tells it.
-use Rattle.std.specs.Prelude.{ℕ, suc, zero, List, [], ◌∷◌, ◌++◌, ◌==◌, cond, Bool, true, false, map, slice_index_or}
+use Rattle.std.specs.Prelude.{ℕ, suc, zero, List, [], ◌∷◌, ◌++◌, ◌==◌, cond, Bool, true, false, map, Option, Some, None, slice_index_or}
 use Rattle.plain_cord.specs.declared.script.Command.{Command}
-use Rattle.plain_cord.specs.declared.script.Command.TheVariants as commands
 use Rattle.plain_cord.specs.declared.script.Session.{Session}
 use Rattle.plain_cord.specs.declared.reply.Reply.{Reply}
 use Rattle.plain_cord.specs.declared.reply.Reply.TheVariants as replies
 use Rattle.plain_cord.specs.declared.reply.Book.{Book}
+use Rattle.plain_cord.specs.declared.history.Act.{Act}
 use Rattle.plain_cord.specs.declared.history.Entry.{Entry}
+use Rattle.plain_cord.specs.Outcomes.{asked_action}
 
 -- a command and its answer
 abbrev pub Line : Type 0
@@ -18,12 +19,12 @@ is_unset (replies.Unset name) = true
 is_unset _ = false
 
 -- a board action: a command on a cell, unless a name that it reads was never set
+abbrev pub acts_by : Option (Act × ℕ) → Reply → Bool
+acts_by None reply = false
+acts_by (Some asked) reply = cond (is_unset reply) false true
+
 abbrev pub acts : Command → Reply → Bool
-acts (commands.Put a cell) reply = cond (is_unset reply) false true
-acts (commands.Take cell a) reply = cond (is_unset reply) false true
-acts (commands.Peek cell a) reply = cond (is_unset reply) false true
-acts (commands.Swap a cell) reply = cond (is_unset reply) false true
-acts _ reply = false
+acts command reply = acts_by (asked_action command) reply
 
 -- the lines up to the next board action, which is the last of them
 abbrev pub upto : List Line → List Line

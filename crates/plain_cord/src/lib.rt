@@ -1,6 +1,6 @@
 //! Plain data and definitions: what a script is, what its sessions answer, and what their commands mean on byte strings
 //! and on the board's cells.
-//! Nothing here runs; every layer above is proved against it.
+//! Every layer above is proved against it.
 #![tactic(auto)]
 
 mod deed;

@@ -16,10 +16,6 @@ pub enum Command {
         a: Items<u8>,
         text: Text,
     },
-    Ext {
-        a: Items<u8>,
-        text: Text,
-    },
     Copy {
         a: Items<u8>,
         b: Items<u8>,
@@ -106,9 +102,6 @@ pub enum Command {
         a: Items<u8>,
         cell: u8,
     },
-    Snap,
-    Walk,
-    Unsnap,
 }
 
 /// A session's name and its commands, in order.

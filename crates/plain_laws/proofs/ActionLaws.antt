@@ -17,7 +17,8 @@ use Rattle.plain_cord.specs.Runs.{Plays, IsPlainRun}
 use Rattle.plain_laws.specs.Targets.{cell_of}
 use Rattle.plain_laws.specs.Replays.{entries_of}
 use Rattle.plain_laws.specs.Lines.{lines_of}
-use Rattle.plain_laws.specs.Actions.{asked_action, actions_of, told_actions}
+use Rattle.plain_cord.specs.Outcomes.{asked_action}
+use Rattle.plain_laws.specs.Actions.{actions_of, told_actions}
 use Rattle.plain_laws.proofs.OrderedLines.{each-line}
 use Rattle.plain_laws.proofs.EffectKinds.{IsQuiet, IsUnset, IsAction, kinds}
 

@@ -8,15 +8,13 @@ use Rattle.std.proofs.lemmas.Bool.{cond_both}
 use Rattle.std.proofs.lemmas.List.Elements.{All-head, All-tail}
 use Rattle.plain_cord.specs.declared.limits.TheConstants.{MOST_BYTES}
 use Rattle.plain_cord.specs.declared.script.Command.{Command}
-use Rattle.plain_cord.specs.declared.script.Command.TheVariants as commands
 use Rattle.plain_cord.specs.declared.reply.Reply.{Reply}
 use Rattle.plain_cord.specs.declared.reply.Reply.TheVariants as replies
-use Rattle.plain_cord.specs.Texts.{text_bytes}
 use Rattle.plain_cord.specs.States.{CordState, Environment, plain, empty_cord, changed, with_name}
-use Rattle.plain_cord.specs.Outcomes.{Outcome, outcome, with_found, with_cord, keeping, edited, refused, grown, cut}
+use Rattle.plain_cord.specs.Outcomes.{Outcome, outcome, with_found, with_cord, keeping, edited, refused, grown, cut, Change, Clears, Grows, Cuts, Sums, edited_by, Meaning, Sets, Copies, Derives, Edits, Joins, Tells, Asks, Compares, OnCell, meaning, outcome_of}
 use Rattle.plain_cord.specs.Steps.{IsOutcome, PlainRun}
 use Rattle.plain_laws.specs.Targets.{target}
-use Rattle.plain_laws.specs.Sums.{GivesSum}
+use Rattle.plain_laws.specs.Sums.{IsGiving, GivesSum}
 use Rattle.plain_laws.proofs.OtherNames.{others-stay}
 
 -- what became of a cord: it stayed, or has no sum
@@ -69,35 +67,23 @@ FateAny : CordState → List ℕ → Option Outcome → Type 0
 FateAny old name None = Unit {0}
 FateAny old name (Some o) = Fate old (o.names name)
 
-fate-outcome : (names : Environment) (command : Command) (name : List ℕ) (old : CordState) → names name ≡ Some old → ¬ (GivesSum name command) → FateAny old name (outcome names command)
+fate-change : (names : Environment) (a name : List ℕ) (cord old : CordState) (change : Change) → names a ≡ Some cord → names name ≡ Some old → ¬ (IsGiving name (Edits a change)) → Fate old ((keeping names a (edited_by cord change)).names name)
+fate-change names a name cord old Clears is found never = fate-set names a name empty_cord old found (λ same. inr refl)
+fate-change names a name cord old (Grows make) is found never = fate-grown names a name cord old (make cord.bytes) is found
+fate-change names a name cord old (Cuts n make) is found never = fate-cut names a name cord old n (make cord.bytes) is found
+fate-change names a name cord old (Sums value) is found never = fate-set names a name _ old found (λ same. absurd (never same))
+
+fate-outcome : (names : Environment) (means : Meaning) (name : List ℕ) (old : CordState) → names name ≡ Some old → ¬ (IsGiving name means) → FateAny old name (outcome_of names means)
 unfolding FateAny
-fate-outcome names (commands.Let a text) name old found never = fate-set names a name _ old found (λ same. inr refl)
-fate-outcome names (commands.Ext a text) name old found never = tt
-fate-outcome names (commands.Copy a b) name old found never = fate-cord names a name _ old found (λ cord is. fate-set names b name cord old found (λ same. absurd (never same)))
-fate-outcome names (commands.Sub a pos n b) name old found never = fate-cord names a name _ old found (λ cord is. fate-set names b name _ old found (λ same. inr refl))
-fate-outcome names (commands.Clear a) name old found never = fate-cord names a name _ old found (λ cord is. fate-set names a name empty_cord old found (λ same. inr refl))
-fate-outcome names (commands.Append a text) name old found never = fate-cord names a name _ old found (λ cord is. fate-grown names a name cord old (cord.bytes ++ text_bytes text) is found)
-fate-outcome names (commands.Prepend a text) name old found never = fate-cord names a name _ old found (λ cord is. fate-grown names a name cord old (text_bytes text ++ cord.bytes) is found)
-fate-outcome names (commands.Join a b) name old found never = fate-cord names a name _ old found (λ cord is. fate-cord names b name _ old found (λ other also. fate-grown names a name cord old (cord.bytes ++ other.bytes) is found))
-fate-outcome names (commands.JoinFront a b) name old found never = fate-cord names a name _ old found (λ cord is. fate-cord names b name _ old found (λ other also. fate-grown names a name cord old (other.bytes ++ cord.bytes) is found))
-fate-outcome names (commands.CutFront a n) name old found never = fate-cord names a name _ old found (λ cord is. fate-cut names a name cord old n (drop n cord.bytes) is found)
-fate-outcome names (commands.CutBack a n) name old found never = fate-cord names a name _ old found (λ cord is. fate-cut names a name cord old n (take (length cord.bytes - n) cord.bytes) is found)
-fate-outcome names (commands.SetSum a value) name old found never = fate-cord names a name _ old found (λ cord is. fate-set names a name _ old found (λ same. absurd (never same)))
-fate-outcome names (commands.Sum a) name old found never = fate-cord names a name _ old found (λ cord is. stayed names name old found)
-fate-outcome names (commands.Size a) name old found never = fate-cord names a name _ old found (λ cord is. stayed names name old found)
-fate-outcome names (commands.Print a) name old found never = fate-cord names a name _ old found (λ cord is. stayed names name old found)
-fate-outcome names (commands.At a i) name old found never = fate-cord names a name _ old found (λ cord is. stayed names name old found)
-fate-outcome names (commands.Find a text) name old found never = fate-cord names a name _ old found (λ cord is. stayed names name old found)
-fate-outcome names (commands.Compare a b) name old found never = fate-cord names a name _ old found (λ cord is. fate-cord names b name _ old found (λ other also. stayed names name old found))
-fate-outcome names (commands.Starts a text) name old found never = fate-cord names a name _ old found (λ cord is. stayed names name old found)
-fate-outcome names (commands.Ends a text) name old found never = fate-cord names a name _ old found (λ cord is. stayed names name old found)
-fate-outcome names (commands.Put a cell) name old found never = tt
-fate-outcome names (commands.Take cell a) name old found never = tt
-fate-outcome names (commands.Peek cell a) name old found never = tt
-fate-outcome names (commands.Swap a cell) name old found never = tt
-fate-outcome names commands.Snap name old found never = tt
-fate-outcome names commands.Walk name old found never = tt
-fate-outcome names commands.Unsnap name old found never = tt
+fate-outcome names (Sets a bytes) name old found never = fate-set names a name _ old found (λ same. inr refl)
+fate-outcome names (Copies a b) name old found never = fate-cord names a name _ old found (λ cord is. fate-set names b name cord old found (λ same. absurd (never same)))
+fate-outcome names (Derives a make b) name old found never = fate-cord names a name _ old found (λ cord is. fate-set names b name _ old found (λ same. inr refl))
+fate-outcome names (Edits a change) name old found never = fate-cord names a name _ old found (λ cord is. fate-change names a name cord old change is found never)
+fate-outcome names (Joins a b make) name old found never = fate-cord names a name _ old found (λ cord is. fate-cord names b name _ old found (λ other also. fate-grown names a name cord old (make cord.bytes other.bytes) is found))
+fate-outcome names (Tells a) name old found never = fate-cord names a name _ old found (λ cord is. stayed names name old found)
+fate-outcome names (Asks a answer) name old found never = fate-cord names a name _ old found (λ cord is. stayed names name old found)
+fate-outcome names (Compares a b answer) name old found never = fate-cord names a name _ old found (λ cord is. fate-cord names b name _ old found (λ other also. stayed names name old found))
+fate-outcome names (OnCell act cell a) name old found never = tt
 
 fate-step : (o : Option Outcome) (now : Environment) (reply : Reply) (name : List ℕ) (old : CordState) → FateAny old name o → IsOutcome o now reply → Fate old (now name)
 unfolding FateAny
@@ -116,7 +102,7 @@ fate-run names [] [] now name old run never found = subst (λ (c : Option CordSt
 fate-run names [] (reply ∷ replies) now name old run never found = absurd run
 fate-run names (command ∷ said) [] now name old run never found = absurd run
 fate-run names (command ∷ said) (reply ∷ replies) now name old run never found =
-    let first = fate-step (outcome names command) run.0 reply name old (fate-outcome names command name old found (All-head (λ (c : Command). ¬ (GivesSum name c)) command said never)) run.1 in
+    let first = fate-step (outcome names command) run.0 reply name old (fate-outcome names (meaning command) name old found (All-head (λ (c : Command). ¬ (GivesSum name c)) command said never)) run.1 in
     fate-through (run.0 name) old (now name) first (λ mid is. fate-run run.0 said replies now name mid run.2 (All-tail (λ (c : Command). ¬ (GivesSum name c)) command said never) is)
 
 pub carried-or-lost : (names : Environment) (said : List Command) (replies : List Reply) (now : Environment) (name : List ℕ) (old new : CordState) → PlainRun names said replies now → All (λ command. ¬ (GivesSum name command)) said

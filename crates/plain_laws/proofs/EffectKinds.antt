@@ -10,11 +10,10 @@ use Rattle.plain_cord.specs.declared.reply.Reply.TheVariants as replies
 use Rattle.plain_cord.specs.declared.history.Act.{Act}
 use Rattle.plain_cord.specs.declared.history.Act.TheVariants.{Put, Take, Peek, Swap}
 use Rattle.plain_cord.specs.States.{CordState, Environment, SameNames, empty_cord, with_name}
-use Rattle.plain_cord.specs.Outcomes.{Outcome, answered, outcome}
+use Rattle.plain_cord.specs.Outcomes.{Outcome, answered, outcome, asked_action}
 use Rattle.plain_cord.specs.Deeds.{after_of, IsProper}
 use Rattle.plain_cord.specs.Effects.{SessionState, Cells, Effect, held_in, apart, acting, with_own, with_given, done_or_empty, brought, PlainEffect}
 use Rattle.plain_cord.specs.RunOrders.{is_unset}
-use Rattle.plain_laws.specs.Actions.{asked_action}
 use Rattle.plain_laws.specs.Targets.{target, cell_of}
 use Rattle.plain_laws.specs.Refusals.{IsRefusal}
 use Rattle.plain_laws.proofs.OtherNames.{set-other}

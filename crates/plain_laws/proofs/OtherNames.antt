@@ -4,12 +4,11 @@ use Rattle.std.specs.Str.{bytes_eq}
 use Rattle.std.proofs.lemmas.Slice.Eq.{bytes_eq-Decides}
 use Rattle.std.proofs.lemmas.Bool.{cond_both}
 use Rattle.plain_cord.specs.declared.script.Command.{Command}
-use Rattle.plain_cord.specs.declared.script.Command.TheVariants as commands
 use Rattle.plain_cord.specs.declared.reply.Reply.{Reply}
 use Rattle.plain_cord.specs.States.{CordState, Environment, with_name}
-use Rattle.plain_cord.specs.Outcomes.{Outcome, outcome, with_found, with_cord}
+use Rattle.plain_cord.specs.Outcomes.{Outcome, outcome, with_found, with_cord, Meaning, Sets, Copies, Derives, Edits, Joins, Tells, Asks, Compares, OnCell, meaning, outcome_of}
 use Rattle.plain_cord.specs.Steps.{IsOutcome, PlainStep}
-use Rattle.plain_laws.specs.Targets.{target}
+use Rattle.plain_laws.specs.Targets.{set_by, target}
 
 -- setting a name leaves the others
 pub set-other : (names : Environment) (a name : List ℕ) (cord : CordState) → Some a ≢ Some name → with_name names a cord name ≡ names name
@@ -26,38 +25,20 @@ leaves-found names a name (Some cord) go leaves = leaves cord
 leaves-cord : (names : Environment) (a name : List ℕ) (go : CordState → Outcome) → ((cord : CordState) → (go cord).names name ≡ names name) → (with_cord names a go).names name ≡ names name
 leaves-cord names a name go leaves = leaves-found names a name (names a) go leaves
 
-leaves-outcome : (names : Environment) (command : Command) (name : List ℕ) → target command ≢ Some name → LeavesName names name (outcome names command)
-leaves-outcome names (commands.Let a text) name other = set-other names a name _ other
-leaves-outcome names (commands.Ext a text) name other = tt
-leaves-outcome names (commands.Copy a b) name other = leaves-cord names a name _ (λ cord. set-other names b name _ other)
-leaves-outcome names (commands.Sub a pos n b) name other = leaves-cord names a name _ (λ cord. set-other names b name _ other)
-leaves-outcome names (commands.Clear a) name other = leaves-cord names a name _ (λ cord. set-other names a name _ other)
-leaves-outcome names (commands.Append a text) name other = leaves-cord names a name _ (λ cord. set-other names a name _ other)
-leaves-outcome names (commands.Prepend a text) name other = leaves-cord names a name _ (λ cord. set-other names a name _ other)
-leaves-outcome names (commands.Join a b) name other = leaves-cord names a name _ (λ cord. leaves-cord names b name _ (λ second. set-other names a name _ other))
-leaves-outcome names (commands.JoinFront a b) name other = leaves-cord names a name _ (λ cord. leaves-cord names b name _ (λ second. set-other names a name _ other))
-leaves-outcome names (commands.CutFront a n) name other = leaves-cord names a name _ (λ cord. set-other names a name _ other)
-leaves-outcome names (commands.CutBack a n) name other = leaves-cord names a name _ (λ cord. set-other names a name _ other)
-leaves-outcome names (commands.SetSum a value) name other = leaves-cord names a name _ (λ cord. set-other names a name _ other)
-leaves-outcome names (commands.Sum a) name other = leaves-cord names a name _ (λ cord. refl)
-leaves-outcome names (commands.Size a) name other = leaves-cord names a name _ (λ cord. refl)
-leaves-outcome names (commands.Print a) name other = leaves-cord names a name _ (λ cord. refl)
-leaves-outcome names (commands.At a i) name other = leaves-cord names a name _ (λ cord. refl)
-leaves-outcome names (commands.Find a text) name other = leaves-cord names a name _ (λ cord. refl)
-leaves-outcome names (commands.Compare a b) name other = leaves-cord names a name _ (λ cord. leaves-cord names b name _ (λ second. refl))
-leaves-outcome names (commands.Starts a text) name other = leaves-cord names a name _ (λ cord. refl)
-leaves-outcome names (commands.Ends a text) name other = leaves-cord names a name _ (λ cord. refl)
-leaves-outcome names (commands.Put a cell) name other = tt
-leaves-outcome names (commands.Take cell a) name other = tt
-leaves-outcome names (commands.Peek cell a) name other = tt
-leaves-outcome names (commands.Swap a cell) name other = tt
-leaves-outcome names commands.Snap name other = tt
-leaves-outcome names commands.Walk name other = tt
-leaves-outcome names commands.Unsnap name other = tt
+leaves-outcome : (names : Environment) (means : Meaning) (name : List ℕ) → set_by means ≢ Some name → LeavesName names name (outcome_of names means)
+leaves-outcome names (Sets a bytes) name other = set-other names a name _ other
+leaves-outcome names (Copies a b) name other = leaves-cord names a name _ (λ cord. set-other names b name _ other)
+leaves-outcome names (Derives a make b) name other = leaves-cord names a name _ (λ cord. set-other names b name _ other)
+leaves-outcome names (Edits a change) name other = leaves-cord names a name _ (λ cord. set-other names a name _ other)
+leaves-outcome names (Joins a b make) name other = leaves-cord names a name _ (λ cord. leaves-cord names b name _ (λ second. set-other names a name _ other))
+leaves-outcome names (Tells a) name other = leaves-cord names a name _ (λ cord. refl)
+leaves-outcome names (Asks a answer) name other = leaves-cord names a name _ (λ cord. refl)
+leaves-outcome names (Compares a b answer) name other = leaves-cord names a name _ (λ cord. leaves-cord names b name _ (λ second. refl))
+leaves-outcome names (OnCell act cell a) name other = tt
 
 leaves-step : (names : Environment) (o : Option Outcome) (now : Environment) (reply : Reply) (name : List ℕ) → LeavesName names name o → IsOutcome o now reply → now name ≡ names name
 leaves-step names None now reply name leaves step = absurd step
 leaves-step names (Some o) now reply name leaves step = sym (step.0 name) ∙ leaves
 
 pub others-stay : (names now : Environment) (command : Command) (reply : Reply) (name : List ℕ) → PlainStep names command now reply → target command ≢ Some name → now name ≡ names name
-others-stay names now command reply name step other = leaves-step names (outcome names command) now reply name (leaves-outcome names command name other) step
+others-stay names now command reply name step other = leaves-step names (outcome names command) now reply name (leaves-outcome names (meaning command) name other) step

@@ -6,12 +6,10 @@ use Rattle.std.proofs.lemmas.Slice.Eq.{bytes_eq-Decides}
 use Rattle.std.proofs.lemmas.Bool.{cond_both}
 use Rattle.plain_cord.specs.declared.limits.TheConstants.{MOST_BYTES}
 use Rattle.plain_cord.specs.declared.script.Command.{Command}
-use Rattle.plain_cord.specs.declared.script.Command.TheVariants as commands
 use Rattle.plain_cord.specs.declared.reply.Reply.{Reply}
 use Rattle.plain_cord.specs.declared.reply.Reply.TheVariants as replies
-use Rattle.plain_cord.specs.Texts.{text_bytes}
 use Rattle.plain_cord.specs.States.{CordState, Environment, SameNames, with_name, changed}
-use Rattle.plain_cord.specs.Outcomes.{Outcome, outcome, with_found, with_cord, keeping, edited, refused, grown, cut}
+use Rattle.plain_cord.specs.Outcomes.{Outcome, outcome, with_found, with_cord, keeping, edited, refused, grown, cut, answered, sum_or_none, Change, Clears, Grows, Cuts, Sums, edited_by, Meaning, Sets, Copies, Derives, Edits, Joins, Tells, Asks, Compares, OnCell, meaning, outcome_of}
 use Rattle.plain_cord.specs.Steps.{IsOutcome, PlainStep}
 use Rattle.plain_laws.specs.Refusals.{IsRefusal}
 
@@ -48,38 +46,30 @@ stays-sum : (names : Environment) (a : List ℕ) (cord new : CordState) (b : Boo
 stays-sum names a cord new true found = λ refusal. with_name-same names a cord found
 stays-sum names a cord new false found = λ refusal. absurd refusal
 
-stays-outcome : (names : Environment) (command : Command) → StaysAny names (outcome names command)
-stays-outcome names (commands.Let a text) = λ refusal. absurd refusal
-stays-outcome names (commands.Ext a text) = tt
-stays-outcome names (commands.Copy a b) = stays-cord names a _ (λ cord found refusal. absurd refusal)
-stays-outcome names (commands.Sub a pos n b) = stays-cord names a _ (λ cord found refusal. absurd refusal)
-stays-outcome names (commands.Clear a) = stays-cord names a _ (λ cord found refusal. absurd refusal)
-stays-outcome names (commands.Append a text) = stays-cord names a _ (λ cord found. stays-grown names a cord (cord.bytes ++ text_bytes text) found)
-stays-outcome names (commands.Prepend a text) = stays-cord names a _ (λ cord found. stays-grown names a cord (text_bytes text ++ cord.bytes) found)
-stays-outcome names (commands.Join a b) = stays-cord names a _ (λ cord found. stays-cord names b _ (λ other also. stays-grown names a cord (cord.bytes ++ other.bytes) found))
-stays-outcome names (commands.JoinFront a b) = stays-cord names a _ (λ cord found. stays-cord names b _ (λ other also. stays-grown names a cord (other.bytes ++ cord.bytes) found))
-stays-outcome names (commands.CutFront a n) = stays-cord names a _ (λ cord found. stays-cut names a cord n (drop n cord.bytes) found)
-stays-outcome names (commands.CutBack a n) = stays-cord names a _ (λ cord found. stays-cut names a cord n (take (length cord.bytes - n) cord.bytes) found)
-stays-outcome names (commands.SetSum a value) = stays-cord names a _ (λ cord found. stays-sum names a cord (record { bytes = cord.bytes; sum = Some value }) (length cord.bytes == 0) found)
-stays-outcome names (commands.Sum a) = stays-cord names a _ (λ cord found. λ refusal name. refl)
-stays-outcome names (commands.Size a) = stays-cord names a _ (λ cord found. λ refusal name. refl)
-stays-outcome names (commands.Print a) = stays-cord names a _ (λ cord found. λ refusal name. refl)
-stays-outcome names (commands.At a i) = stays-cord names a _ (λ cord found. λ refusal name. refl)
-stays-outcome names (commands.Find a text) = stays-cord names a _ (λ cord found. λ refusal name. refl)
-stays-outcome names (commands.Compare a b) = stays-cord names a _ (λ cord found. stays-cord names b _ (λ other also. λ refusal name. refl))
-stays-outcome names (commands.Starts a text) = stays-cord names a _ (λ cord found. λ refusal name. refl)
-stays-outcome names (commands.Ends a text) = stays-cord names a _ (λ cord found. λ refusal name. refl)
-stays-outcome names (commands.Put a cell) = tt
-stays-outcome names (commands.Take cell a) = tt
-stays-outcome names (commands.Peek cell a) = tt
-stays-outcome names (commands.Swap a cell) = tt
-stays-outcome names commands.Snap = tt
-stays-outcome names commands.Walk = tt
-stays-outcome names commands.Unsnap = tt
+stays-change : (names : Environment) (a : List ℕ) (cord : CordState) (change : Change) → names a ≡ Some cord → Stays names (keeping names a (edited_by cord change))
+stays-change names a cord Clears found = λ refusal. absurd refusal
+stays-change names a cord (Grows make) found = stays-grown names a cord (make cord.bytes) found
+stays-change names a cord (Cuts n make) found = stays-cut names a cord n (make cord.bytes) found
+stays-change names a cord (Sums value) found = stays-sum names a cord (record { bytes = cord.bytes; sum = Some value }) (length cord.bytes == 0) found
+
+-- an answer changes nothing
+stays-answered : (names : Environment) (reply : Reply) → Stays names (answered names reply)
+stays-answered names reply = λ refusal name. refl
+
+stays-outcome : (names : Environment) (means : Meaning) → StaysAny names (outcome_of names means)
+stays-outcome names (Sets a bytes) = λ refusal. absurd refusal
+stays-outcome names (Copies a b) = stays-cord names a _ (λ cord found refusal. absurd refusal)
+stays-outcome names (Derives a make b) = stays-cord names a _ (λ cord found refusal. absurd refusal)
+stays-outcome names (Edits a change) = stays-cord names a _ (λ cord found. stays-change names a cord change found)
+stays-outcome names (Joins a b make) = stays-cord names a _ (λ cord found. stays-cord names b _ (λ other also. stays-grown names a cord (make cord.bytes other.bytes) found))
+stays-outcome names (Tells a) = stays-cord names a _ (λ cord found. stays-answered names (sum_or_none cord.sum))
+stays-outcome names (Asks a answer) = stays-cord names a _ (λ cord found. stays-answered names (answer cord.bytes))
+stays-outcome names (Compares a b answer) = stays-cord names a _ (λ cord found. stays-cord names b _ (λ other also. stays-answered names (answer cord.bytes other.bytes)))
+stays-outcome names (OnCell act cell a) = tt
 
 stays-step : (names : Environment) (o : Option Outcome) (now : Environment) (reply : Reply) → StaysAny names o → IsOutcome o now reply → IsRefusal reply → SameNames now names
 stays-step names None now reply stays step refusal = absurd step
 stays-step names (Some o) now reply stays step refusal = λ name. sym (step.0 name) ∙ stays (subst IsRefusal step.1 refusal) name
 
 pub refused-stays : (names now : Environment) (command : Command) (reply : Reply) → PlainStep names command now reply → IsRefusal reply → SameNames now names
-refused-stays names now command reply step refusal = stays-step names (outcome names command) now reply (stays-outcome names command) step refusal
+refused-stays names now command reply step refusal = stays-step names (outcome names command) now reply (stays-outcome names (meaning command)) step refusal

@@ -7,14 +7,12 @@ use Rattle.std.specs.List.{All}
 use Rattle.std.proofs.lemmas.List.Elements.{All-head, All-tail}
 use Rattle.plain_cord.specs.declared.limits.TheConstants.{MOST_BYTES}
 use Rattle.plain_cord.specs.declared.script.Command.{Command}
-use Rattle.plain_cord.specs.declared.script.Command.TheVariants as commands
 use Rattle.plain_cord.specs.declared.reply.Reply.{Reply}
 use Rattle.plain_cord.specs.declared.reply.Reply.TheVariants as replies
-use Rattle.plain_cord.specs.Texts.{text_bytes}
 use Rattle.plain_cord.specs.States.{CordState, Environment, plain, empty_cord, with_name}
-use Rattle.plain_cord.specs.Outcomes.{Outcome, outcome, with_found, with_cord, keeping, edited, refused, grown, cut, with_sum}
+use Rattle.plain_cord.specs.Outcomes.{Outcome, outcome, with_found, with_cord, keeping, edited, refused, grown, cut, with_sum, Change, Clears, Grows, Cuts, Sums, edited_by, Meaning, Sets, Copies, Derives, Edits, Joins, Tells, Asks, Compares, OnCell, meaning, outcome_of}
 use Rattle.plain_cord.specs.Steps.{IsOutcome, PlainRun}
-use Rattle.plain_laws.specs.Sums.{SameBytes, AsksSum}
+use Rattle.plain_laws.specs.Sums.{SameBytes, IsTelling, AsksSum}
 
 abbrev bytes_of : Option CordState → Option (List ℕ)
 bytes_of o = option_map (λ cord. cord.bytes) o
@@ -73,34 +71,22 @@ AlikeAny None p = Unit {0}
 AlikeAny (Some o) None = ⊥
 AlikeAny (Some o) (Some p) = Alike o p
 
-alike-outcome : (names others : Environment) → SameBytes names others → (command : Command) → ¬ (AsksSum command) → AlikeAny (outcome names command) (outcome others command)
-alike-outcome names others same (commands.Let a text) asks = (refl, same-set names others same a (plain (text_bytes text)) (plain (text_bytes text)) refl)
-alike-outcome names others same (commands.Ext a text) asks = tt
-alike-outcome names others same (commands.Copy a b) asks = alike-cord names others same a _ _ (λ bytes s t. (refl, same-set names others same b (summed bytes s) (summed bytes t) refl))
-alike-outcome names others same (commands.Sub a pos n b) asks = alike-cord names others same a _ _ (λ bytes s t. (refl, same-set names others same b (plain (take n (drop pos bytes))) (plain (take n (drop pos bytes))) refl))
-alike-outcome names others same (commands.Clear a) asks = alike-cord names others same a _ _ (λ bytes s t. (refl, same-set names others same a empty_cord empty_cord refl))
-alike-outcome names others same (commands.Append a text) asks = alike-cord names others same a _ _ (λ bytes s t. alike-grown names others same a bytes s t (bytes ++ text_bytes text))
-alike-outcome names others same (commands.Prepend a text) asks = alike-cord names others same a _ _ (λ bytes s t. alike-grown names others same a bytes s t (text_bytes text ++ bytes))
-alike-outcome names others same (commands.Join a b) asks = alike-cord names others same a _ _ (λ bytes s t. alike-cord names others same b _ _ (λ more u v. alike-grown names others same a bytes s t (bytes ++ more)))
-alike-outcome names others same (commands.JoinFront a b) asks = alike-cord names others same a _ _ (λ bytes s t. alike-cord names others same b _ _ (λ more u v. alike-grown names others same a bytes s t (more ++ bytes)))
-alike-outcome names others same (commands.CutFront a n) asks = alike-cord names others same a _ _ (λ bytes s t. alike-cut names others same a bytes s t n (drop n bytes))
-alike-outcome names others same (commands.CutBack a n) asks = alike-cord names others same a _ _ (λ bytes s t. alike-cut names others same a bytes s t n (take (length bytes - n) bytes))
-alike-outcome names others same (commands.SetSum a value) asks = alike-cord names others same a _ _ (λ bytes s t. alike-sum names others same a bytes s t value)
-alike-outcome names others same (commands.Sum a) asks = absurd (asks tt)
-alike-outcome names others same (commands.Size a) asks = alike-cord names others same a _ _ (λ bytes s t. (refl, same))
-alike-outcome names others same (commands.Print a) asks = alike-cord names others same a _ _ (λ bytes s t. (refl, same))
-alike-outcome names others same (commands.At a i) asks = alike-cord names others same a _ _ (λ bytes s t. (refl, same))
-alike-outcome names others same (commands.Find a text) asks = alike-cord names others same a _ _ (λ bytes s t. (refl, same))
-alike-outcome names others same (commands.Compare a b) asks = alike-cord names others same a _ _ (λ bytes s t. alike-cord names others same b _ _ (λ more u v. (refl, same)))
-alike-outcome names others same (commands.Starts a text) asks = alike-cord names others same a _ _ (λ bytes s t. (refl, same))
-alike-outcome names others same (commands.Ends a text) asks = alike-cord names others same a _ _ (λ bytes s t. (refl, same))
-alike-outcome names others same (commands.Put a cell) asks = tt
-alike-outcome names others same (commands.Take cell a) asks = tt
-alike-outcome names others same (commands.Peek cell a) asks = tt
-alike-outcome names others same (commands.Swap a cell) asks = tt
-alike-outcome names others same commands.Snap asks = tt
-alike-outcome names others same commands.Walk asks = tt
-alike-outcome names others same commands.Unsnap asks = tt
+alike-change : (names others : Environment) → SameBytes names others → (a bytes : List ℕ) (s t : Option ℕ) (change : Change) → Alike (keeping names a (edited_by (summed bytes s) change)) (keeping others a (edited_by (summed bytes t) change))
+alike-change names others same a bytes s t Clears = (refl, same-set names others same a empty_cord empty_cord refl)
+alike-change names others same a bytes s t (Grows make) = alike-grown names others same a bytes s t (make bytes)
+alike-change names others same a bytes s t (Cuts n make) = alike-cut names others same a bytes s t n (make bytes)
+alike-change names others same a bytes s t (Sums value) = alike-sum names others same a bytes s t value
+
+alike-outcome : (names others : Environment) → SameBytes names others → (means : Meaning) → ¬ (IsTelling means) → AlikeAny (outcome_of names means) (outcome_of others means)
+alike-outcome names others same (Sets a new) asks = (refl, same-set names others same a (plain new) (plain new) refl)
+alike-outcome names others same (Copies a b) asks = alike-cord names others same a _ _ (λ bytes s t. (refl, same-set names others same b (summed bytes s) (summed bytes t) refl))
+alike-outcome names others same (Derives a make b) asks = alike-cord names others same a _ _ (λ bytes s t. (refl, same-set names others same b (plain (make bytes)) (plain (make bytes)) refl))
+alike-outcome names others same (Edits a change) asks = alike-cord names others same a _ _ (λ bytes s t. alike-change names others same a bytes s t change)
+alike-outcome names others same (Joins a b make) asks = alike-cord names others same a _ _ (λ bytes s t. alike-cord names others same b _ _ (λ more u v. alike-grown names others same a bytes s t (make bytes more)))
+alike-outcome names others same (Tells a) asks = absurd (asks tt)
+alike-outcome names others same (Asks a answer) asks = alike-cord names others same a _ _ (λ bytes s t. (refl, same))
+alike-outcome names others same (Compares a b answer) asks = alike-cord names others same a _ _ (λ bytes s t. alike-cord names others same b _ _ (λ more u v. (refl, same)))
+alike-outcome names others same (OnCell act cell a) asks = tt
 
 alike-step : (o p : Option Outcome) (now later : Environment) (reply answer : Reply) → AlikeAny o p → IsOutcome o now reply → IsOutcome p later answer → (reply ≡ answer) × SameBytes now later
 alike-step None p now later reply answer alike one other = absurd one
@@ -117,6 +103,6 @@ alike-run names others now later (command ∷ said) [] answers same none one oth
 alike-run names others now later (command ∷ said) (reply ∷ replies) [] same none one other = absurd other
 alike-run names others now later (command ∷ said) (reply ∷ replies) (answer ∷ answers) same none one other =
     let asks : ¬ (AsksSum command) = All-head (λ (c : Command). ¬ (AsksSum c)) command said none in
-    let first : (reply ≡ answer) × SameBytes one.0 other.0 = alike-step (outcome names command) (outcome others command) one.0 other.0 reply answer (alike-outcome names others same command asks) one.1 other.1 in
+    let first : (reply ≡ answer) × SameBytes one.0 other.0 = alike-step (outcome names command) (outcome others command) one.0 other.0 reply answer (alike-outcome names others same (meaning command) asks) one.1 other.1 in
     let rest = alike-run one.0 other.0 now later said replies answers first.1 (All-tail (λ (c : Command). ¬ (AsksSum c)) command said none) one.2 other.2 in
     (ap (λ (r : Reply). r ∷ replies) first.0 ∙ ap (λ (rs : List Reply). answer ∷ rs) rest.0, rest.1)

@@ -1,19 +1,9 @@
 -- The board actions of a session, as its commands ask for them, and as the history tells them.
 use Rattle.std.specs.Prelude.{ℕ, List, cond, map, filter_map, Option, Some, None}
-use Rattle.plain_cord.specs.declared.script.Command.{Command}
-use Rattle.plain_cord.specs.declared.script.Command.TheVariants as commands
 use Rattle.plain_cord.specs.declared.history.Act.{Act}
-use Rattle.plain_cord.specs.declared.history.Act.TheVariants.{Put, Take, Peek, Swap}
 use Rattle.plain_cord.specs.declared.history.Entry.{Entry}
+use Rattle.plain_cord.specs.Outcomes.{asked_action}
 use Rattle.plain_cord.specs.RunOrders.{Line, acts}
-
--- what a command asks to be done to which cell
-abbrev pub asked_action : Command → Option (Act × ℕ)
-asked_action (commands.Put a cell) = Some (Put, cell)
-asked_action (commands.Take cell a) = Some (Take, cell)
-asked_action (commands.Peek cell a) = Some (Peek, cell)
-asked_action (commands.Swap a cell) = Some (Swap, cell)
-asked_action _ = None
 
 -- those of the lines that came to the board
 abbrev pub actions_of : List Line → List (Act × ℕ)

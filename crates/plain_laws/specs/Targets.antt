@@ -1,41 +1,26 @@
 -- The name that a command may set, and the cell that it names.
 use Rattle.std.specs.Prelude.{ℕ, List, Option, Some, None}
 use Rattle.plain_cord.specs.declared.script.Command.{Command}
-use Rattle.plain_cord.specs.declared.script.Command.TheVariants as commands
+use Rattle.plain_cord.specs.Outcomes.{Meaning, Sets, Copies, Derives, Edits, Joins, Tells, Asks, Compares, OnCell, meaning}
+
+abbrev pub set_by : Meaning → Option (List ℕ)
+set_by (Sets a bytes) = Some a
+set_by (Copies a b) = Some b
+set_by (Derives a make b) = Some b
+set_by (Edits a change) = Some a
+set_by (Joins a b make) = Some a
+set_by (Tells a) = None
+set_by (Asks a answer) = None
+set_by (Compares a b answer) = None
+set_by (OnCell act cell a) = Some a
 
 abbrev pub target : Command → Option (List ℕ)
-target (commands.Let a text) = Some a
-target (commands.Ext a text) = Some a
-target (commands.Copy a b) = Some b
-target (commands.Sub a pos n b) = Some b
-target (commands.Clear a) = Some a
-target (commands.Append a text) = Some a
-target (commands.Prepend a text) = Some a
-target (commands.Join a b) = Some a
-target (commands.JoinFront a b) = Some a
-target (commands.CutFront a n) = Some a
-target (commands.CutBack a n) = Some a
-target (commands.SetSum a value) = Some a
-target (commands.Sum a) = None
-target (commands.Size a) = None
-target (commands.Print a) = None
-target (commands.At a i) = None
-target (commands.Find a text) = None
-target (commands.Compare a b) = None
-target (commands.Starts a text) = None
-target (commands.Ends a text) = None
-target (commands.Put a cell) = Some a
-target (commands.Take cell a) = Some a
-target (commands.Peek cell a) = Some a
-target (commands.Swap a cell) = Some a
-target commands.Snap = None
-target commands.Walk = None
-target commands.Unsnap = None
+target command = set_by (meaning command)
 
 -- the cell that a command names
+abbrev pub cell_in : Meaning → Option ℕ
+cell_in (OnCell act cell a) = Some cell
+cell_in _ = None
+
 abbrev pub cell_of : Command → Option ℕ
-cell_of (commands.Put a cell) = Some cell
-cell_of (commands.Take cell a) = Some cell
-cell_of (commands.Peek cell a) = Some cell
-cell_of (commands.Swap a cell) = Some cell
-cell_of _ = None
+cell_of command = cell_in (meaning command)

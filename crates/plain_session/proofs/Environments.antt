@@ -14,7 +14,8 @@ use Rattle.plain_cord.specs.Steps.{IsOutcome}
 use Rattle.plain_session.specs.declared.cord.PlainCord.{PlainCord}
 use Rattle.plain_session.specs.declared.edit.Edit.{Edit}
 use Rattle.plain_session.specs.States.{state_of}
-use Rattle.plain_session.specs.Edits.{Leaves, edited_by, change_outcome}
+use Rattle.plain_cord.specs.Outcomes.{edited_by}
+use Rattle.plain_session.specs.Edits.{Leaves, change_of, change_outcome}
 
 -- a function goes into both sides of a choice
 option_map-if : {A B : Type 0} (f : A → B) (x y : Option A) (b : Bool) → option_map f (if b then x else y) ≡ if b then option_map f x else option_map f y
@@ -37,5 +38,5 @@ unchanged-names names now a old new found same kept = λ name. same name ∙ (ap
 
 -- an edit of the cord that a name has is the outcome for the name
 pub edit-outcome : (names now : Environment) (a : List ℕ) (edit : Edit) (old new : CordState) (reply : Reply) → names a ≡ Some old
-    → SameNames now (with_name names a new) → Leaves (edited_by old edit) new reply → IsOutcome (Some (change_outcome names a edit)) now reply
+    → SameNames now (with_name names a new) → Leaves (edited_by old (change_of edit)) new reply → IsOutcome (Some (change_outcome names a edit)) now reply
 edit-outcome names now a edit old new reply found same left = rw found ((λ name. sym (same name ∙ ap (λ cord. with_name names a cord name) left.0)), left.1)

@@ -1,27 +1,26 @@
--- The commands that need byte strings alone.
-use Rattle.std.specs.Prelude.{◌*◌, ◌≤◌, length}
-use Rattle.plain_cord.specs.declared.script.Text.{Text}
+-- What comes of a command in a session on byte strings.
+use Rattle.std.specs.Prelude.{◌≡◌, ℕ, List}
 use Rattle.plain_cord.specs.declared.script.Command.{Command}
 use Rattle.plain_cord.specs.declared.script.Command.TheVariants as commands
+use Rattle.plain_cord.specs.declared.history.Act.{Act}
+use Rattle.plain_cord.specs.declared.history.Act.TheVariants.{Put, Take, Peek, Swap}
+use Rattle.plain_cord.specs.States.{Environment}
+use Rattle.plain_cord.specs.Steps.{PlainStep}
+use Rattle.plain_session.specs.declared.session.Ran.{Ran}
+use Rattle.plain_session.specs.declared.session.Ran.TheVariants.{Answered, OnCell}
 
--- a text within the limit of the script language
-abbrev pub IsShortText : Text → Type 0
-IsShortText text = length text.piece * text.times ≤ 1048576
+-- the command of an act on a cell
+abbrev pub command_on : Act → ℕ → List ℕ → Command
+command_on Put cell a = commands.Put a cell
+command_on Take cell a = commands.Take cell a
+command_on Peek cell a = commands.Peek cell a
+command_on Swap cell a = commands.Swap a cell
 
--- a command that has a plain step
-abbrev pub IsByteCommand : Command → Type 0
-IsByteCommand (commands.Let a text) = IsShortText text
-IsByteCommand (commands.Append a text) = IsShortText text
-IsByteCommand (commands.Prepend a text) = IsShortText text
-IsByteCommand (commands.Find a text) = IsShortText text
-IsByteCommand (commands.Starts a text) = IsShortText text
-IsByteCommand (commands.Ends a text) = IsShortText text
-IsByteCommand (commands.Ext a text) = ⊥
-IsByteCommand (commands.Put a cell) = ⊥
-IsByteCommand (commands.Take cell a) = ⊥
-IsByteCommand (commands.Peek cell a) = ⊥
-IsByteCommand (commands.Swap a cell) = ⊥
-IsByteCommand commands.Snap = ⊥
-IsByteCommand commands.Walk = ⊥
-IsByteCommand commands.Unsnap = ⊥
-IsByteCommand _ = Unit {0}
+-- its plain step was done, or it is on a cell, and then the names are what they were
+abbrev pub Does : Environment → Command → Environment → Ran → Type 0
+Does names command now (Answered reply) = PlainStep names command now reply
+Does names command now (OnCell act cell a) = (now ≡ names) × (command ≡ command_on act cell a.now)
+
+abbrev pub IsOnCell : Ran → Act → ℕ → List ℕ → Type 0
+IsOnCell (Answered reply) act cell a = ⊥
+IsOnCell (OnCell does on named) act cell a = (does ≡ act) × (on ≡ cell) × (named.now ≡ a)

@@ -1,21 +1,21 @@
--- What an edit makes of one cord.
-use Rattle.std.specs.Prelude.{◌≡◌, ℕ, ◌*◌, ◌≤◌, Bool, List, ◌++◌, length, if◌then◌else◌}
+-- The change that an edit is, and what it makes of one cord.
+use Rattle.std.specs.Prelude.{◌≡◌, ℕ, ◌-◌, ◌*◌, ◌≤◌, Bool, List, ◌++◌, length, take, drop, if◌then◌else◌}
 use Rattle.plain_cord.specs.declared.limits.TheConstants.{MOST_BYTES}
 use Rattle.plain_cord.specs.declared.reply.Reply.{Reply}
 use Rattle.plain_cord.specs.Texts.{repeated}
-use Rattle.plain_cord.specs.States.{CordState, Environment, empty_cord}
-use Rattle.plain_cord.specs.Outcomes.{Outcome, Edited, edited, keeping, with_cord, grown, cut_front, cut_back, with_sum}
+use Rattle.plain_cord.specs.States.{CordState, Environment}
+use Rattle.plain_cord.specs.Outcomes.{Outcome, Edited, keeping, with_cord, grown, Change, Clears, Grows, Cuts, Sums, edited_by}
 use Rattle.plain_session.specs.declared.edit.Edit.{Edit}
 use Rattle.plain_session.specs.declared.edit.Edit.TheVariants.{Clear, Append, Prepend, Double, CutFront, CutBack, SetSum}
 
-abbrev pub edited_by : CordState → Edit → Edited
-edited_by cord Clear = edited empty_cord
-edited_by cord (Append piece times) = grown cord (cord.bytes ++ repeated piece.now times)
-edited_by cord (Prepend piece times) = grown cord (repeated piece.now times ++ cord.bytes)
-edited_by cord Double = grown cord (cord.bytes ++ cord.bytes)
-edited_by cord (CutFront n) = cut_front cord n
-edited_by cord (CutBack n) = cut_back cord n
-edited_by cord (SetSum value) = with_sum cord value
+abbrev pub change_of : Edit → Change
+change_of Clear = Clears
+change_of (Append piece times) = Grows (λ bytes. bytes ++ repeated piece.now times)
+change_of (Prepend piece times) = Grows (λ bytes. repeated piece.now times ++ bytes)
+change_of Double = Grows (λ bytes. bytes ++ bytes)
+change_of (CutFront n) = Cuts n (λ bytes. drop n bytes)
+change_of (CutBack n) = Cuts n (λ bytes. take (length bytes - n) bytes)
+change_of (SetSum value) = Sums value
 
 -- the change left this cord, with this answer
 abbrev pub Leaves : Edited → CordState → Reply → Type 0
@@ -29,7 +29,7 @@ Fits _ = Unit {0}
 
 -- an edit on the cord of a name
 abbrev pub change_outcome : Environment → List ℕ → Edit → Outcome
-change_outcome names name edit = with_cord names name (λ cord. keeping names name (edited_by cord edit))
+change_outcome names name edit = with_cord names name (λ cord. keeping names name (edited_by cord (change_of edit)))
 
 -- the bytes of another cord in front or behind
 abbrev pub joined : CordState → CordState → Bool → Edited

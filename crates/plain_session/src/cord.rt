@@ -3,7 +3,7 @@ ghost use Rattle.std.specs.Prelude.{◌≡◌, ◌+◌, ◌*◌, ◌-◌, ◌<�
 ghost use Rattle.plain_cord.specs.declared.limits.TheConstants.{MOST_BYTES};
 ghost use Rattle.plain_cord.specs.Texts.{repeated};
 ghost use Rattle.plain_cord.specs.States.{plain, empty_cord};
-ghost use Rattle.plain_cord.specs.Outcomes.{edited, grown, cut_front, cut_back, with_sum};
+ghost use Rattle.plain_cord.specs.Outcomes.{edited, grown, cut_front, cut_back, with_sum, edited_by};
 
 use crate::edit::Edit;
 use crate::pieces::{behind, front, push_repeated};
@@ -21,7 +21,7 @@ pub struct PlainCord {
 
 impl PlainCord {
     ghost use Rattle.plain_session.specs.States.{state_of};
-    ghost use Rattle.plain_session.specs.Edits.{edited_by, Fits, Leaves};
+    ghost use Rattle.plain_session.specs.Edits.{change_of, Fits, Leaves};
 
     /// A cord of these bytes, of which no sum is expected.
     pub fn of_piece(alloc: Global, piece: &[u8], times: u32) -> Result<PlainCord, AllocError>
@@ -185,7 +185,7 @@ impl PlainCord {
     /// Does an edit. After an error the cord is as before.
     pub fn change(&mut self, edit: Edit<'_>) -> Result<Reply, AllocError>
         requires { Fits edit }
-        ensures ok { IfOk result (λ reply. Leaves (edited_by (state_of self.old) edit.entry) (state_of self.new) reply) }
+        ensures ok { IfOk result (λ reply. Leaves (edited_by (state_of self.old) (change_of edit.entry)) (state_of self.new) reply) }
         ensures err { OnErr result (state_of self.new ≡ state_of self.old) }
     {
         match edit {

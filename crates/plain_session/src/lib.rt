@@ -18,3 +18,4 @@ pub use cord::PlainCord;
 pub use edit::Edit;
 pub use names::Names;
 pub use replies::{done, unset};
+pub use session::Ran;

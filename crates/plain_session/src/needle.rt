@@ -1,7 +1,7 @@
 //! A text that is looked for.
 ghost use Rattle.std.specs.Prelude.{◌≡◌, IfOk};
 ghost use Rattle.plain_cord.specs.Texts.{text_bytes};
-ghost use Rattle.plain_session.specs.Commands.{IsShortText};
+ghost use Rattle.script_words.specs.Forms.{IsShort};
 ghost use Rattle.plain_session.specs.Needles.{needle_bytes};
 
 use crate::pieces::push_repeated;
@@ -17,7 +17,7 @@ pub enum Needle<'b> {
 
 impl<'b> Needle<'b> {
     pub fn of_text(alloc: Global, text: &'b Text) -> Result<Needle<'b>, AllocError>
-        requires { IsShortText text.now }
+        requires { IsShort 0 text.now }
         ensures { IfOk result (λ needle. needle_bytes needle ≡ text_bytes text.now) }
     {
         if text.times == 1 {

@@ -4,7 +4,8 @@ ghost use Rattle.plain_cord.specs.States.{SameNames, no_names};
 ghost use Rattle.plain_cord.specs.Steps.{PlainStep};
 ghost use Rattle.plain_cord.specs.declared.script.Command.TheVariants as commands;
 ghost use Rattle.plain_session.specs.States.{environment_of};
-ghost use Rattle.plain_session.specs.Commands.{IsByteCommand, IsShortText};
+ghost use Rattle.script_words.specs.Forms.{IsShort, IsWithin};
+ghost use Rattle.plain_session.specs.Commands.{Does, IsOnCell};
 
 use crate::cord::PlainCord;
 use crate::edit::Edit;
@@ -12,52 +13,85 @@ use crate::names::Names;
 use crate::needle::Needle;
 use crate::queries::{answer, byte_at, order_reply, place_reply, show, sum_reply};
 use crate::replies::{done, unset};
-use plain_cord::{Command, Reply, Text};
+use plain_cord::{Act, Command, Items, Reply, Text};
 use std::alloc::AllocError;
 
+/// What came of a command.
+#[derive(Drop)]
+pub enum Ran<'a> {
+    Answered(Reply),
+    /// The command is on a cell of the board: the act, the cell, and the name whose cord it moves.
+    OnCell {
+        act: Act,
+        cell: u8,
+        a: &'a [u8],
+    },
+}
+
+impl<'a> Ran<'a> {
+    fn on_cell(act: Act, cell: u8, a: &'a Items<u8>) -> Ran<'a>
+        ensures { IsOnCell result act cell a.now }
+    {
+        Ran::OnCell {
+            act,
+            cell,
+            a: a.as_slice(),
+        }
+    }
+}
+
 impl<'a> Names<'a> {
-    /// Does a command. After an error the names are as before.
-    pub fn run(&mut self, command: &'a Command) -> Result<Reply, AllocError>
-        requires { IsByteCommand command.now }
-        ensures ok { IfOk result (λ reply. PlainStep (environment_of self.old) command.now (environment_of self.new) reply) }
+    /// Does a command, unless it is on a cell: then nothing has changed. After an error the names are as before.
+    pub fn run(&mut self, command: &'a Command) -> Result<Ran<'a>, AllocError>
+        requires { IsWithin command.now }
+        ensures ok { IfOk result (λ ran. Does (environment_of self.old) command.now (environment_of self.new) ran) }
         ensures err { OnErr result (SameNames (environment_of self.new) (environment_of self.old)) }
     {
         match command {
-            Command::Let { a, text } => self.set_text(a.as_slice(), text),
-            Command::Clear { a } => self.change(a.as_slice(), Edit::Clear),
+            Command::Let { a, text } => Ok(Ran::Answered(self.set_text(a.as_slice(), text)?)),
+            Command::Clear { a } => Ok(Ran::Answered(self.change(a.as_slice(), Edit::Clear)?)),
             Command::Append { a, text } => {
-                self.change(
-                    a.as_slice(),
-                    Edit::Append(text.piece.as_slice(), text.times),
-                )
+                let edit = Edit::Append(text.piece.as_slice(), text.times);
+                Ok(Ran::Answered(self.change(a.as_slice(), edit)?))
             }
             Command::Prepend { a, text } => {
-                self.change(
-                    a.as_slice(),
-                    Edit::Prepend(text.piece.as_slice(), text.times),
-                )
+                let edit = Edit::Prepend(text.piece.as_slice(), text.times);
+                Ok(Ran::Answered(self.change(a.as_slice(), edit)?))
             }
-            Command::CutFront { a, n } => self.change(a.as_slice(), Edit::CutFront(*n)),
-            Command::CutBack { a, n } => self.change(a.as_slice(), Edit::CutBack(*n)),
-            Command::SetSum { a, value } => self.change(a.as_slice(), Edit::SetSum(*value)),
-            Command::Sum { a } => self.sum(a.as_slice()),
-            Command::Size { a } => self.size(a.as_slice()),
-            Command::Print { a } => self.print(a.as_slice()),
-            Command::At { a, i } => self.byte(a.as_slice(), *i),
-            Command::Copy { a, b } => self.copy(a.as_slice(), b.as_slice()),
-            Command::Sub { a, pos, n, b } => self.sub(a.as_slice(), *pos, *n, b.as_slice()),
-            Command::Join { a, b } => self.join(a.as_slice(), b.as_slice(), false),
-            Command::JoinFront { a, b } => self.join(a.as_slice(), b.as_slice(), true),
-            Command::Find { a, text } => self.place(a.as_slice(), text),
-            Command::Compare { a, b } => self.order(a.as_slice(), b.as_slice()),
-            Command::Starts { a, text } => self.starts(a.as_slice(), text),
-            Command::Ends { a, text } => self.ends(a.as_slice(), text),
-            _ => unreachable!(),
+            Command::CutFront { a, n } => {
+                Ok(Ran::Answered(self.change(a.as_slice(), Edit::CutFront(*n))?))
+            }
+            Command::CutBack { a, n } => {
+                Ok(Ran::Answered(self.change(a.as_slice(), Edit::CutBack(*n))?))
+            }
+            Command::SetSum { a, value } => {
+                Ok(Ran::Answered(self.change(a.as_slice(), Edit::SetSum(*value))?))
+            }
+            Command::Sum { a } => Ok(Ran::Answered(self.sum(a.as_slice())?)),
+            Command::Size { a } => Ok(Ran::Answered(self.size(a.as_slice())?)),
+            Command::Print { a } => Ok(Ran::Answered(self.print(a.as_slice())?)),
+            Command::At { a, i } => Ok(Ran::Answered(self.byte(a.as_slice(), *i)?)),
+            Command::Copy { a, b } => Ok(Ran::Answered(self.copy(a.as_slice(), b.as_slice())?)),
+            Command::Sub { a, pos, n, b } => {
+                Ok(Ran::Answered(self.sub(a.as_slice(), *pos, *n, b.as_slice())?))
+            }
+            Command::Join { a, b } => Ok(Ran::Answered(self.join(a.as_slice(), b.as_slice(), false)?)),
+            Command::JoinFront { a, b } => {
+                Ok(Ran::Answered(self.join(a.as_slice(), b.as_slice(), true)?))
+            }
+            Command::Find { a, text } => Ok(Ran::Answered(self.place(a.as_slice(), text)?)),
+            Command::Compare { a, b } => Ok(Ran::Answered(self.order(a.as_slice(), b.as_slice())?)),
+            Command::Starts { a, text } => Ok(Ran::Answered(self.starts(a.as_slice(), text)?)),
+            Command::Ends { a, text } => Ok(Ran::Answered(self.ends(a.as_slice(), text)?)),
+            Command::Put { a, cell } => Ok(Ran::on_cell(Act::Put, *cell, a)),
+            Command::Take { cell, a } => Ok(Ran::on_cell(Act::Take, *cell, a)),
+            Command::Peek { cell, a } => Ok(Ran::on_cell(Act::Peek, *cell, a)),
+            Command::Swap { a, cell } => Ok(Ran::on_cell(Act::Swap, *cell, a)),
         }
     }
 
     fn set_text(&mut self, a: &'a [u8], text: &Text) -> Result<Reply, AllocError>
-        requires { IsShortText text.now }
+        requires { IsShort 0 text.now }
         ensures ok { IfOk result (λ reply. PlainStep (environment_of self.old) (commands.Let a.now text.now) (environment_of self.new) reply) }
         ensures err { OnErr result (SameNames (environment_of self.new) (environment_of self.old)) }
     {
@@ -129,7 +163,7 @@ impl<'a> Names<'a> {
     }
 
     fn place(&self, a: &[u8], text: &Text) -> Result<Reply, AllocError>
-        requires { IsShortText text.now }
+        requires { IsShort 0 text.now }
         ensures { IfOk result (λ reply. PlainStep (environment_of self.now) (commands.Find a.now text.now) (environment_of self.now) reply) }
     {
         let Some(cord) = self.find(a) else {
@@ -152,7 +186,7 @@ impl<'a> Names<'a> {
     }
 
     fn starts(&self, a: &[u8], text: &Text) -> Result<Reply, AllocError>
-        requires { IsShortText text.now }
+        requires { IsShort 0 text.now }
         ensures { IfOk result (λ reply. PlainStep (environment_of self.now) (commands.Starts a.now text.now) (environment_of self.now) reply) }
     {
         let Some(cord) = self.find(a) else {
@@ -163,7 +197,7 @@ impl<'a> Names<'a> {
     }
 
     fn ends(&self, a: &[u8], text: &Text) -> Result<Reply, AllocError>
-        requires { IsShortText text.now }
+        requires { IsShort 0 text.now }
         ensures { IfOk result (λ reply. PlainStep (environment_of self.now) (commands.Ends a.now text.now) (environment_of self.now) reply) }
     {
         let Some(cord) = self.find(a) else {

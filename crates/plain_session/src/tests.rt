@@ -1,9 +1,9 @@
 //! Each public call once, on small cords, and commands at the edges of their numbers.
 ghost use Rattle.std.specs.Prelude.{◌*◌, ◌≤◌, length, IfOk};
-ghost use Rattle.plain_session.specs.Commands.{IsByteCommand};
+ghost use Rattle.script_words.specs.Forms.{IsWithin};
 
 use super::*;
-use plain_cord::{Command, Items, Reply, Text};
+use plain_cord::{Act, Command, Items, Reply, Text};
 use std::alloc::{AllocError, Global};
 use std::test::Fail;
 
@@ -54,7 +54,7 @@ fn names_keep_cords_apart(rt: HostRuntime) -> Result<(), Fail> {
 
 fn set(alloc: Global, name: &[u8], piece: &[u8], times: u32) -> Result<Command, AllocError>
     requires { length piece.now * times ≤ 1048576 }
-    ensures { IfOk result (λ command. IsByteCommand command) }
+    ensures { IfOk result (λ command. IsWithin command) }
 {
     let a = Items::from_slice(alloc, name)?;
     let piece = Items::from_slice(alloc, piece)?;
@@ -75,11 +75,16 @@ fn commands_are_run(rt: HostRuntime) -> Result<(), Fail> {
         a: Items::from_slice(alloc, b"x")?,
     };
     let mut names = Names::new(alloc);
-    assert!(rt; matches!(names.run(&join)?, Reply::Unset { .. }));
-    assert!(rt; is_done(&names.run(&first)?));
-    assert!(rt; is_done(&names.run(&second)?));
-    assert!(rt; is_done(&names.run(&join)?));
-    assert!(rt; matches!(names.run(&size)?, Reply::Number { value: 7 }));
+    let take = Command::Take {
+        cell: 63,
+        a: Items::from_slice(alloc, b"x")?,
+    };
+    assert!(rt; matches!(names.run(&join)?, Ran::Answered(Reply::Unset { .. })));
+    for command in [&first, &second, &join] {
+        assert!(rt; matches!(names.run(command)?, Ran::Answered(Reply::Done { .. })));
+    }
+    assert!(rt; matches!(names.run(&size)?, Ran::Answered(Reply::Number { value: 7 })));
+    assert!(rt; matches!(names.run(&take)?, Ran::OnCell { act: Act::Take, cell: 63, .. }));
     Ok(())
 }
 
@@ -96,7 +101,7 @@ enum Kind {
 
 // A command on `x`; a text is so many times `aa`.
 fn command_of(alloc: Global, kind: Kind, n: u64) -> Result<Command, AllocError>
-    ensures { IfOk result (λ command. IsByteCommand command) }
+    ensures { IfOk result (λ command. IsWithin command) }
 {
     let a = Items::from_slice(alloc, b"x")?;
     let piece = Items::from_slice(alloc, b"aa")?;
@@ -120,13 +125,15 @@ fn command_of(alloc: Global, kind: Kind, n: u64) -> Result<Command, AllocError>
 
 // The answer where `x` is so many letters `a`.
 fn answer_at(alloc: Global, length: u16, command: &Command) -> Result<String, AllocError>
-    requires { IsByteCommand command.now }
+    requires { IsWithin command.now }
 {
     let first = set(alloc, b"x", b"a", length as u32)?;
     let mut names = Names::new(alloc);
     names.run(&first)?;
-    let reply = names.run(command)?;
-    format!(in alloc; "{reply:?}")
+    match names.run(command)? {
+        Ran::Answered(reply) => format!(in alloc; "{reply:?}"),
+        Ran::OnCell { .. } => String::from_str(alloc, "on a cell"),
+    }
 }
 
 const DONE: &str = "Done { new: Plain, gone: None }";

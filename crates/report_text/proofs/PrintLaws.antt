@@ -26,7 +26,8 @@ use Rattle.plain_cord.specs.RunOrders.{run_order, lines_at}
 use Rattle.plain_cord.specs.Runs.{IsPlainRun}
 use Rattle.report_text.specs.Replies.{IsShortReply}
 use Rattle.report_text.specs.Outputs.{HasProperLengths, IsProperEntry, IsPrintable}
-use Rattle.report_text.specs.ShortNames.{names_in, IsShortName, AreShortNames, HasShortNames}
+use Rattle.script_words.specs.Forms.{names_in}
+use Rattle.report_text.specs.ShortNames.{IsShortName, AreShortNames, HasShortNames}
 use Rattle.report_text.proofs.RunLines.{each-order, order-each, plays-keep}
 use Rattle.report_text.proofs.SessionLines.{books-paired, session-said, books-answered}
 
@@ -98,7 +99,6 @@ fine-swap p state cells a cell cord (Some x) = (tt, ((refl, refl), tt))
 fine-effect : (p : ℕ) (state : SessionState) (cells : Cells) (command : Command) → AllByRecursion IsShortName (names_in command) → IsFine p (effect p state cells command)
 unfolding IsFine
 fine-effect p state cells (commands.Let a text) n = (tt, tt)
-fine-effect p state cells (commands.Ext a text) n = tt
 fine-effect p state cells (commands.Copy a b) n = (short-cord state.names a _ n.0 (λ cord. tt), tt)
 fine-effect p state cells (commands.Sub a pos m b) n = (short-cord state.names a _ n.0 (λ cord. tt), tt)
 fine-effect p state cells (commands.Clear a) n = (short-cord state.names a _ n.0 (λ cord. tt), tt)
@@ -121,9 +121,6 @@ fine-effect p state cells (commands.Put a cell) n = fine-own p state cells a (st
 fine-effect p state cells (commands.Take cell a) n = (short-given cell (held_in cells cell), ((refl, refl), tt))
 fine-effect p state cells (commands.Peek cell a) n = (short-given cell (held_in cells cell), ((refl, refl), tt))
 fine-effect p state cells (commands.Swap a cell) n = fine-own p state cells a (state.names a) _ n.0 (λ cord. fine-swap p state cells a cell cord (held_in cells cell))
-fine-effect p state cells commands.Snap n = tt
-fine-effect p state cells commands.Walk n = tt
-fine-effect p state cells commands.Unsnap n = tt
 
 -- ---- runs
 

@@ -7,14 +7,15 @@ use Rattle.std.proofs.lemmas.Bool.Decides.{nat_tests}
 use Rattle.std.proofs.lemmas.List.Concat.{flat_map-cons}
 use Rattle.std.proofs.lemmas.List.Elements.{All-nil, All-cons}
 use Rattle.plain_cord.specs.declared.script.Command.{Command}
-use Rattle.plain_cord.specs.declared.script.Command.TheVariants as commands
+use Rattle.script_words.specs.Table.{Form, OfName, OfNameText, OfNameNumber, OfNameCell, OfCellName, OfTwoNames, OfSub, form_of}
+use Rattle.script_words.specs.Forms.{form_text}
 use Rattle.plain_cord.specs.declared.script.Session.{Session}
 use Rattle.plain_cord.specs.declared.script.Script.{Script}
 use Rattle.script_words.specs.Words.{is_digit, is_shown}
 use Rattle.script_words.specs.Spelling.{hex_digit_of, SpellsByte, SpellsBytes}
 use Rattle.script_reader.specs.declared.progress.Item.{Item}
 use Rattle.script_reader.specs.declared.progress.Item.TheVariants as items
-use Rattle.script_reader.specs.Spelling.{SaysCommand, Says}
+use Rattle.script_reader.specs.Spelling.{SaysForm, Says}
 use Rattle.script_reader.specs.ScriptSpelling.{SpellsLines, session_items, script_items, Spells}
 use Rattle.report_text.specs.Readable.{IsByte}
 use Rattle.run_laws.specs.ByteTexts.{HasByteText, HaveByteTexts}
@@ -46,15 +47,14 @@ bytes-below : (inner bytes : List ℕ) → SpellsBytes inner bytes → All IsByt
 bytes-below inner [] h = All-nil IsByte
 bytes-below inner (b ∷ bytes) h = All-cons IsByte b bytes (byte-below h.0 b h.3) (bytes-below h.1 bytes h.4)
 
-command-bytes : (command : Command) (rest : Option (List ℕ)) → SaysCommand rest command → HasByteText command
-command-bytes (commands.Let a text) rest h = bytes-below h.3.inner text.piece h.3.bytes
-command-bytes (commands.Ext a text) rest h = bytes-below h.3.inner text.piece h.3.bytes
-command-bytes (commands.Append a text) rest h = bytes-below h.3.inner text.piece h.3.bytes
-command-bytes (commands.Prepend a text) rest h = bytes-below h.3.inner text.piece h.3.bytes
-command-bytes (commands.Find a text) rest h = bytes-below h.3.inner text.piece h.3.bytes
-command-bytes (commands.Starts a text) rest h = bytes-below h.3.inner text.piece h.3.bytes
-command-bytes (commands.Ends a text) rest h = bytes-below h.3.inner text.piece h.3.bytes
-command-bytes command rest h = tt
+form-bytes : (form : Form) (rest : Option (List ℕ)) → SaysForm rest form → IfSome (form_text form) (λ text. All IsByte text.piece)
+form-bytes (OfNameText verb a text) rest h = bytes-below h.3.inner text.piece h.3.bytes
+form-bytes (OfName verb a) rest h = tt
+form-bytes (OfNameNumber verb a n) rest h = tt
+form-bytes (OfNameCell verb a cell) rest h = tt
+form-bytes (OfCellName verb cell a) rest h = tt
+form-bytes (OfTwoNames verb a b) rest h = tt
+form-bytes (OfSub a pos n b) rest h = tt
 
 abbrev IsByteItem : Item → Type 0
 IsByteItem (items.Do command) = HasByteText command
@@ -65,7 +65,7 @@ AreByteItems [] = Unit {0}
 AreByteItems (item ∷ more) = IsByteItem item × AreByteItems more
 
 item-bytes : (item : Item) (rest : Option (List ℕ)) → Says rest item → IsByteItem item
-item-bytes (items.Do command) rest h = command-bytes command rest h
+item-bytes (items.Do command) rest h = form-bytes (form_of command) rest h
 item-bytes (items.Set setting) rest h = tt
 item-bytes (items.Begin name) rest h = tt
 item-bytes items.End rest h = tt

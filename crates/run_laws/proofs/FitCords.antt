@@ -10,7 +10,7 @@ use Rattle.plain_cord.specs.Texts.{repeated, text_bytes, place_of}
 use Rattle.plain_cord.specs.States.{CordState, Environment, plain, empty_cord, changed, with_name}
 use Rattle.plain_cord.specs.Effects.{Cells, held_in}
 use Rattle.report_text.proofs.RunLines.{all-both}
-use Rattle.script_reader.specs.Limits.{IsShort}
+use Rattle.script_words.specs.Forms.{IsShort}
 
 -- ---- parts of byte strings
 

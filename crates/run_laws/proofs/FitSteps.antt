@@ -25,7 +25,8 @@ use Rattle.plain_cord.specs.Outcomes.{Outcome, outcome, with_found, with_cord, k
 use Rattle.plain_cord.specs.Deeds.{noted_of, after_of}
 use Rattle.plain_cord.specs.Effects.{SessionState, Cells, Effect, effect, apart, acting, with_own, with_given, held_in, done_or_empty, brought, size_of}
 use Rattle.script_words.specs.Spelling.{IsName}
-use Rattle.script_reader.specs.Limits.{IsShort, HasSoundParts}
+use Rattle.script_words.specs.Forms.{IsShort}
+use Rattle.script_reader.specs.Limits.{IsSoundCommand}
 use Rattle.report_text.specs.Outputs.{HasProperLengths}
 use Rattle.report_text.specs.Readable.{IsNumber, IsReadableReply, IsReadableEntry}
 use Rattle.run_laws.specs.ByteTexts.{HasTextOf}
@@ -140,45 +141,41 @@ module _ (P : ℕ → Type 0) where
   FitAny None = Unit {0}
   FitAny (Some o) = FitOutcome o
 
-  fit-outcome : (names : Environment) (command : Command) → AreFitNames P names → HasSoundParts command → HasTextOf P command → FitAny (outcome names command)
+  fit-outcome : (names : Environment) (command : Command) → AreFitNames P names → IsSoundCommand command → HasTextOf P command → FitAny (outcome names command)
   unfolding FitAny
-  fit-outcome names (commands.Let a text) fit parts t = fit-named names a (plain (text_bytes text)) fit (fit-plain P (text_bytes text) (text-bytes P text t) (text-few 0 text parts.1))
-  fit-outcome names (commands.Ext a text) fit parts t = tt
-  fit-outcome names (commands.Copy a b) fit parts t = fit-cord names a _ fit parts.0 (λ cord f. fit-named names b cord fit f)
-  fit-outcome names (commands.Sub a pos n b) fit parts t = fit-cord names a _ fit parts.0 (λ cord f.
+  fit-outcome names (commands.Let a text) fit parts t = fit-named names a (plain (text_bytes text)) fit (fit-plain P (text_bytes text) (text-bytes P text t) (text-few 0 text parts.within))
+  fit-outcome names (commands.Copy a b) fit parts t = fit-cord names a _ fit parts.names.0 (λ cord f. fit-named names b cord fit f)
+  fit-outcome names (commands.Sub a pos n b) fit parts t = fit-cord names a _ fit parts.names.0 (λ cord f.
       fit-named names b (plain (take n (drop pos cord.bytes))) fit (fit-plain P (take n (drop pos cord.bytes)) (all-take P n (drop pos cord.bytes) (all-drop P pos cord.bytes f.bytes)) (omega (arith, f.size, length-take n (drop pos cord.bytes), length-drop pos cord.bytes))))
-  fit-outcome names (commands.Clear a) fit parts t = fit-cord names a _ fit parts (λ cord f. fit-named names a empty_cord fit (fit-empty P))
-  fit-outcome names (commands.Append a text) fit parts t = fit-cord names a _ fit parts.0 (λ cord f.
-      fit-keeping names a (grown cord (cord.bytes ++ text_bytes text)) fit (fit-grown cord (cord.bytes ++ text_bytes text) f (all-both P cord.bytes (text_bytes text) f.bytes (text-bytes P text t)) (joined-number cord.bytes (text_bytes text) f.size (text-few 0 text parts.1))))
-  fit-outcome names (commands.Prepend a text) fit parts t = fit-cord names a _ fit parts.0 (λ cord f.
-      fit-keeping names a (grown cord (text_bytes text ++ cord.bytes)) fit (fit-grown cord (text_bytes text ++ cord.bytes) f (all-both P (text_bytes text) cord.bytes (text-bytes P text t) f.bytes) (joined-number (text_bytes text) cord.bytes (text-few 0 text parts.1) f.size)))
-  fit-outcome names (commands.Join a b) fit parts t = fit-cord names a _ fit parts.0 (λ cord f. fit-cord names b _ fit parts.1 (λ other g.
+  fit-outcome names (commands.Clear a) fit parts t = fit-cord names a _ fit parts.names.0 (λ cord f. fit-named names a empty_cord fit (fit-empty P))
+  fit-outcome names (commands.Append a text) fit parts t = fit-cord names a _ fit parts.names.0 (λ cord f.
+      fit-keeping names a (grown cord (cord.bytes ++ text_bytes text)) fit (fit-grown cord (cord.bytes ++ text_bytes text) f (all-both P cord.bytes (text_bytes text) f.bytes (text-bytes P text t)) (joined-number cord.bytes (text_bytes text) f.size (text-few 0 text parts.within))))
+  fit-outcome names (commands.Prepend a text) fit parts t = fit-cord names a _ fit parts.names.0 (λ cord f.
+      fit-keeping names a (grown cord (text_bytes text ++ cord.bytes)) fit (fit-grown cord (text_bytes text ++ cord.bytes) f (all-both P (text_bytes text) cord.bytes (text-bytes P text t) f.bytes) (joined-number (text_bytes text) cord.bytes (text-few 0 text parts.within) f.size)))
+  fit-outcome names (commands.Join a b) fit parts t = fit-cord names a _ fit parts.names.0 (λ cord f. fit-cord names b _ fit parts.names.1.0 (λ other g.
       fit-keeping names a (grown cord (cord.bytes ++ other.bytes)) fit (fit-grown cord (cord.bytes ++ other.bytes) f (all-both P cord.bytes other.bytes f.bytes g.bytes) (joined-number cord.bytes other.bytes f.size g.size))))
-  fit-outcome names (commands.JoinFront a b) fit parts t = fit-cord names a _ fit parts.0 (λ cord f. fit-cord names b _ fit parts.1 (λ other g.
+  fit-outcome names (commands.JoinFront a b) fit parts t = fit-cord names a _ fit parts.names.0 (λ cord f. fit-cord names b _ fit parts.names.1.0 (λ other g.
       fit-keeping names a (grown cord (other.bytes ++ cord.bytes)) fit (fit-grown cord (other.bytes ++ cord.bytes) f (all-both P other.bytes cord.bytes g.bytes f.bytes) (joined-number other.bytes cord.bytes g.size f.size))))
-  fit-outcome names (commands.CutFront a n) fit parts t = fit-cord names a _ fit parts.0 (λ cord f.
-      fit-keeping names a (cut_front cord n) fit (fit-cut cord n (drop n cord.bytes) f parts.1 (all-drop P n cord.bytes f.bytes) (omega (arith, length-drop n cord.bytes))))
-  fit-outcome names (commands.CutBack a n) fit parts t = fit-cord names a _ fit parts.0 (λ cord f.
-      fit-keeping names a (cut_back cord n) fit (fit-cut cord n (take (length cord.bytes - n) cord.bytes) f parts.1 (all-take P (length cord.bytes - n) cord.bytes f.bytes) (omega (arith, length-take (length cord.bytes - n) cord.bytes))))
-  fit-outcome names (commands.SetSum a value) fit parts t = fit-cord names a _ fit parts.0 (λ cord f. fit-keeping names a (with_sum cord value) fit (fit-summed cord value f parts.1))
-  fit-outcome names (commands.Sum a) fit parts t = fit-cord names a _ fit parts (λ cord f. fit-answer names (sum_or_none cord.sum) fit (sum-readable cord.sum f.sum))
-  fit-outcome names (commands.Size a) fit parts t = fit-cord names a _ fit parts (λ cord f. fit-answer names (replies.Number (length cord.bytes)) fit (inl (size-number cord f)))
-  fit-outcome names (commands.Print a) fit parts t = fit-cord names a _ fit parts (λ cord f. fit-answer names (shown cord.bytes) fit (shown-readable cord f))
-  fit-outcome names (commands.At a i) fit parts t = fit-cord names a _ fit parts.0 (λ cord f.
-      fit-answer names (byte_or_position i (length cord.bytes) (slice_get cord.bytes i)) fit (byte-readable i (length cord.bytes) (slice_get cord.bytes i) parts.1 (size-number cord f) (all-at P cord.bytes i f.bytes)))
-  fit-outcome names (commands.Find a text) fit parts t = fit-cord names a _ fit parts.0 (λ cord f.
+  fit-outcome names (commands.CutFront a n) fit parts t = fit-cord names a _ fit parts.names.0 (λ cord f.
+      fit-keeping names a (cut_front cord n) fit (fit-cut cord n (drop n cord.bytes) f (omega (arith, parts.within)) (all-drop P n cord.bytes f.bytes) (omega (arith, length-drop n cord.bytes))))
+  fit-outcome names (commands.CutBack a n) fit parts t = fit-cord names a _ fit parts.names.0 (λ cord f.
+      fit-keeping names a (cut_back cord n) fit (fit-cut cord n (take (length cord.bytes - n) cord.bytes) f (omega (arith, parts.within)) (all-take P (length cord.bytes - n) cord.bytes f.bytes) (omega (arith, length-take (length cord.bytes - n) cord.bytes))))
+  fit-outcome names (commands.SetSum a value) fit parts t = fit-cord names a _ fit parts.names.0 (λ cord f. fit-keeping names a (with_sum cord value) fit (fit-summed cord value f (omega (arith, parts.within))))
+  fit-outcome names (commands.Sum a) fit parts t = fit-cord names a _ fit parts.names.0 (λ cord f. fit-answer names (sum_or_none cord.sum) fit (sum-readable cord.sum f.sum))
+  fit-outcome names (commands.Size a) fit parts t = fit-cord names a _ fit parts.names.0 (λ cord f. fit-answer names (replies.Number (length cord.bytes)) fit (inl (size-number cord f)))
+  fit-outcome names (commands.Print a) fit parts t = fit-cord names a _ fit parts.names.0 (λ cord f. fit-answer names (shown cord.bytes) fit (shown-readable cord f))
+  fit-outcome names (commands.At a i) fit parts t = fit-cord names a _ fit parts.names.0 (λ cord f.
+      fit-answer names (byte_or_position i (length cord.bytes) (slice_get cord.bytes i)) fit (byte-readable i (length cord.bytes) (slice_get cord.bytes i) (omega (arith, parts.within)) (size-number cord f) (all-at P cord.bytes i f.bytes)))
+  fit-outcome names (commands.Find a text) fit parts t = fit-cord names a _ fit parts.names.0 (λ cord f.
       fit-answer names (number_or_none (place_of cord.bytes (text_bytes text))) fit (number-readable (length cord.bytes) (place_of cord.bytes (text_bytes text)) f.size (place-within cord.bytes (text_bytes text))))
-  fit-outcome names (commands.Compare a b) fit parts t = fit-cord names a _ fit parts.0 (λ cord f. fit-cord names b _ fit parts.1 (λ other g.
+  fit-outcome names (commands.Compare a b) fit parts t = fit-cord names a _ fit parts.names.0 (λ cord f. fit-cord names b _ fit parts.names.1.0 (λ other g.
       fit-answer names (order_reply (slice_cmp nat_cmp cord.bytes other.bytes)) fit (order-readable (slice_cmp nat_cmp cord.bytes other.bytes))))
-  fit-outcome names (commands.Starts a text) fit parts t = fit-cord names a _ fit parts.0 (λ cord f. fit-answer names (yes_or_no (starts_with nat_eq cord.bytes (text_bytes text))) fit (yes-readable (starts_with nat_eq cord.bytes (text_bytes text))))
-  fit-outcome names (commands.Ends a text) fit parts t = fit-cord names a _ fit parts.0 (λ cord f. fit-answer names (yes_or_no (ends_with nat_eq cord.bytes (text_bytes text))) fit (yes-readable (ends_with nat_eq cord.bytes (text_bytes text))))
+  fit-outcome names (commands.Starts a text) fit parts t = fit-cord names a _ fit parts.names.0 (λ cord f. fit-answer names (yes_or_no (starts_with nat_eq cord.bytes (text_bytes text))) fit (yes-readable (starts_with nat_eq cord.bytes (text_bytes text))))
+  fit-outcome names (commands.Ends a text) fit parts t = fit-cord names a _ fit parts.names.0 (λ cord f. fit-answer names (yes_or_no (ends_with nat_eq cord.bytes (text_bytes text))) fit (yes-readable (ends_with nat_eq cord.bytes (text_bytes text))))
   fit-outcome names (commands.Put a cell) fit parts t = tt
   fit-outcome names (commands.Take cell a) fit parts t = tt
   fit-outcome names (commands.Peek cell a) fit parts t = tt
   fit-outcome names (commands.Swap a cell) fit parts t = tt
-  fit-outcome names commands.Snap fit parts t = tt
-  fit-outcome names commands.Walk fit parts t = tt
-  fit-outcome names commands.Unsnap fit parts t = tt
 
   -- ---- effects
 
@@ -240,24 +237,24 @@ module _ (P : ℕ → Type 0) where
   fit-swap n p state cells a cell cord (Some x) below inside place fit held own found = fit-acting n p state cells Swap cell (Some cord) (Some x) (with_name state.names a x) (replies.Done marks.Plain None) below inside place held own found own refl (fit-set P state.names a x fit found) (tt, tt)
 
   module _ (n p : ℕ) (state : SessionState) (cells : Cells) where
-    fit-effect : (command : Command) → p < n → IsNumber (state.acted + 1) → AreFitNames P state.names → AreFitCells P cells → HasSoundParts command → HasTextOf P command → FitAnyEffect n state (effect p state cells command)
+    fit-effect : (command : Command) → p < n → IsNumber (state.acted + 1) → AreFitNames P state.names → AreFitCells P cells → IsSoundCommand command → HasTextOf P command → FitAnyEffect n state (effect p state cells command)
     unfolding FitAnyEffect
     fit-effect (commands.Put a cell) below place fit held parts t =
         let was = held_in cells cell in
-        fit-own n state cells a (state.names a) _ fit held parts.0 (fit a) (λ cord f.
-        fit-acting n p state cells Put cell (Some cord) was (with_name state.names a empty_cord) (replies.Done marks.Plain None) below parts.1 place held f (fit-held P cells cell held) f (refl, refl) (fit-set P state.names a empty_cord fit (fit-empty P)) (tt, tt))
+        fit-own n state cells a (state.names a) _ fit held parts.names.0 (fit a) (λ cord f.
+        fit-acting n p state cells Put cell (Some cord) was (with_name state.names a empty_cord) (replies.Done marks.Plain None) below parts.within place held f (fit-held P cells cell held) f (refl, refl) (fit-set P state.names a empty_cord fit (fit-empty P)) (tt, tt))
     fit-effect (commands.Take cell a) below place fit held parts t =
         let was = held_in cells cell in
         let found = fit-held P cells cell held in
-        fit-acting n p state cells Take cell None was (with_given state.names a was) (done_or_empty cell was) below parts.1 place held tt found tt refl (given-names state.names a was fit found) (given-reply cell was parts.1)
+        fit-acting n p state cells Take cell None was (with_given state.names a was) (done_or_empty cell was) below parts.within place held tt found tt refl (given-names state.names a was fit found) (given-reply cell was parts.within)
     fit-effect (commands.Peek cell a) below place fit held parts t =
         let was = held_in cells cell in
         let found = fit-held P cells cell held in
-        fit-acting n p state cells Peek cell None was (with_given state.names a was) (done_or_empty cell was) below parts.1 place held tt found found refl (given-names state.names a was fit found) (given-reply cell was parts.1)
+        fit-acting n p state cells Peek cell None was (with_given state.names a was) (done_or_empty cell was) below parts.within place held tt found found refl (given-names state.names a was fit found) (given-reply cell was parts.within)
     fit-effect (commands.Swap a cell) below place fit held parts t =
-        fit-own n state cells a (state.names a) _ fit held parts.0 (fit a) (λ cord f. fit-swap n p state cells a cell cord (held_in cells cell) below parts.1 place fit held f (fit-held P cells cell held))
+        fit-own n state cells a (state.names a) _ fit held parts.names.0 (fit a) (λ cord f. fit-swap n p state cells a cell cord (held_in cells cell) below parts.within place fit held f (fit-held P cells cell held))
     fit-effect command below place fit held parts t = fit-apart n state cells (outcome state.names command) held (fit-outcome state.names command fit parts t)
 
-    pub fit-step : (command : Command) (e : Effect) → p < n → IsNumber (state.acted + 1) → AreFitNames P state.names → AreFitCells P cells → HasSoundParts command → HasTextOf P command → effect p state cells command ≡ Some e → FitEffect P n state e
+    pub fit-step : (command : Command) (e : Effect) → p < n → IsNumber (state.acted + 1) → AreFitNames P state.names → AreFitCells P cells → IsSoundCommand command → HasTextOf P command → effect p state cells command ≡ Some e → FitEffect P n state e
     unfolding FitAnyEffect
     fit-step command e below place fit held parts t step = subst (FitAnyEffect n state) step (fit-effect command below place fit held parts t)

@@ -15,11 +15,12 @@ use Rattle.plain_cord.specs.Deeds.{empty_cells}
 use Rattle.plain_cord.specs.Effects.{SessionState, new_session, Cells, Effect, PlainEffect}
 use Rattle.plain_cord.specs.RunOrders.{Line, replaced, run_order, lines_at}
 use Rattle.plain_cord.specs.Runs.{IsPlainRun}
-use Rattle.script_reader.specs.Limits.{HasSoundParts, IsSoundCommand, IsSoundSession, IsWithinLimits}
+use Rattle.script_reader.specs.Limits.{IsSoundCommand, IsSoundSession, IsWithinLimits}
 use Rattle.report_text.specs.Readable.{IsNumber, IsByte, IsReadableReply, IsInLineReply, AreInLine, IsReadableEntry, IsReadableHistory, IsReadable}
 use Rattle.report_text.proofs.RunLines.{Each, each-order, order-each, plays-keep}
 use Rattle.report_text.proofs.SessionLines.{books-paired, session-said, books-answered}
-use Rattle.run_laws.specs.ByteTexts.{text_of, HasTextOf, HaveByteTexts}
+use Rattle.script_words.specs.Forms.{text_of}
+use Rattle.run_laws.specs.ByteTexts.{HasTextOf, HaveByteTexts}
 use Rattle.run_laws.proofs.Names.{name-in-word, names-differ}
 use Rattle.run_laws.proofs.FitCords.{AreFitNames, AreFitCells, fit-none}
 use Rattle.run_laws.proofs.FitSteps.{Reads, IsReadableNote, FitEffect, fit-step}
@@ -34,7 +35,7 @@ AreFit P left states cells = ((p : ℕ) → IsFitState P left (states p)) × Are
 
 -- a command of one of n sessions
 abbrev AsksFit : (ℕ → Type 0) → ℕ → ℕ → Command → Type 0
-AsksFit P n p command = (p < n) × (HasSoundParts command × HasTextOf P command)
+AsksFit P n p command = (p < n) × (IsSoundCommand command × HasTextOf P command)
 
 fit-kept : (P : ℕ → Type 0) (n left p : ℕ) (states : ℕ → SessionState) (cells : Cells) (command : Command) (e : Effect) → AreFit P (suc left) states cells → AsksFit P n p command → PlainEffect p (states p) cells command e
     → AreFit P left (replaced states p e.state) e.cells × Reads P e.reply × AllByRecursion (IsReadableNote n) e.entries
@@ -43,14 +44,14 @@ fit-kept P n left p states cells command e fit asks step =
     let done : FitEffect P n (states p) e = fit-step P n p (states p) cells command e asks.0 (omega (arith, here.1)) here.0 fit.1 asks.1.0 asks.1.1 step in
     ((λ q. cond_both (q == p) e.state (states q) (IsFitState P left) (λ same. (done.names, omega (arith, done.acted, here.1))) (λ other. let there = fit.0 q in (there.0, omega (arith, there.1))), done.cells), done.reply, done.entries)
 
-commands-fit : (P : ℕ → Type 0) (sessions : List Session) → AllByRecursion IsSoundSession sessions → AllByRecursion (λ session. All (HasTextOf P) session.commands) sessions → AllByRecursion (λ session. AllByRecursion (λ command. HasSoundParts command × HasTextOf P command) session.commands) sessions
+commands-fit : (P : ℕ → Type 0) (sessions : List Session) → AllByRecursion IsSoundSession sessions → AllByRecursion (λ session. All (HasTextOf P) session.commands) sessions → AllByRecursion (λ session. AllByRecursion (λ command. IsSoundCommand command × HasTextOf P command) session.commands) sessions
 commands-fit P [] sound texts = tt
 commands-fit P (session ∷ sessions) sound texts =
     (each session.commands (recursion_from_All IsSoundCommand session.commands sound.0.commands) (recursion_from_All (HasTextOf P) session.commands texts.0), commands-fit P sessions sound.1 texts.1)
   where
-    each : (said : List Command) → AllByRecursion IsSoundCommand said → AllByRecursion (HasTextOf P) said → AllByRecursion (λ command. HasSoundParts command × HasTextOf P command) said
+    each : (said : List Command) → AllByRecursion IsSoundCommand said → AllByRecursion (HasTextOf P) said → AllByRecursion (λ command. IsSoundCommand command × HasTextOf P command) said
     each [] sound texts = tt
-    each (command ∷ said) sound texts = ((sound.0.parts, texts.0), each said sound.1 texts.1)
+    each (command ∷ said) sound texts = ((sound.0, texts.0), each said sound.1 texts.1)
 
 notes-readable : (n : ℕ) (entries : List Entry) → AllByRecursion (IsReadableNote n) entries → AllByRecursion (IsReadableEntry n) entries
 notes-readable n [] h = tt
@@ -65,7 +66,7 @@ module _ (P : ℕ → Type 0) (script : Script) (books : List Book) (history : L
   played =
       let sessions = script.sessions in
       let n : ℕ = length sessions in
-      let said = session-said (λ command. HasSoundParts command × HasTextOf P command) sessions books (commands-fit P sessions (recursion_from_All IsSoundSession sessions limits.sessions) (recursion_from_All (λ session. All (HasTextOf P) session.commands) sessions texts)) in
+      let said = session-said (λ command. IsSoundCommand command × HasTextOf P command) sessions books (commands-fit P sessions (recursion_from_All IsSoundSession sessions limits.sessions) (recursion_from_All (λ session. All (HasTextOf P) session.commands) sessions texts)) in
       let order = run_order n (lines_at sessions books) history in
       let few : length order ≤ 16384 = omega (arith, order-few sessions books history, limits.short) in
       plays-keep (AsksFit P n) (Reads P) (IsReadableNote n) (AreFit P) (fit-kept P n) order (λ p. new_session) empty_cells history ((λ p. ((λ name. tt), omega arith)), fit-none P 64)

@@ -15,22 +15,20 @@ use Rattle.script_words.proofs.Results.{bind_ok, if_ok, unless_ok, ok_is}
 use Rattle.plain_cord.specs.declared.script.Command.{Command}
 use Rattle.plain_cord.specs.declared.script.Session.{Session}
 use Rattle.plain_cord.specs.declared.script.Script.{Script}
-use Rattle.script_reader.specs.declared.verbs.Verb.TheVariants as verbs
-use Rattle.script_reader.specs.declared.progress.Setting.{Setting}
+use Rattle.script_words.specs.declared.verbs.Setting.{Setting}
 use Rattle.script_reader.specs.declared.progress.Settings.{Settings}
 use Rattle.script_reader.specs.declared.progress.Item.{Item}
 use Rattle.script_reader.specs.declared.progress.Item.TheVariants as items
 use Rattle.script_reader.specs.declared.progress.Progress.{Progress}
 use Rattle.script_reader.specs.declared.fault.ReadRefused.{ReadRefused}
 use Rattle.script_reader.specs.ScriptReading.{Reads}
-use Rattle.script_reader.specs.Built.{is_ready}
 use Rattle.script_reader.specs.Scripts.{is_fresh, is_placed, is_called, chosen, with_command, with_end, entered, script_from, lines_of, lines_from, start, headed, read_of, is_header_line}
-use Rattle.script_reader.specs.Spelling.{setting_verb, verb_for}
-use Rattle.script_reader.specs.ScriptSpelling.{session_items, script_items, NoneIsCalled, NamesDiffer, commands_in, is_ready_item, Spells, IsWritten, SpellsLines}
+use Rattle.script_reader.specs.Spelling.{verb_for}
+use Rattle.script_reader.specs.ScriptSpelling.{session_items, script_items, NoneIsCalled, NamesDiffer, commands_in, Spells, IsWritten, SpellsLines}
 use Rattle.script_reader.specs.Faults.{accepted, run}
 use Rattle.script_reader.proofs.ScriptLines.{written_lines, script_lines_found}
 use Rattle.script_reader.proofs.SettingLaws.{AreOnce, chosen_once, once_given}
-use Rattle.script_reader.proofs.Runs.{between, inside, setting_placed}
+use Rattle.script_reader.proofs.Runs.{between, inside}
 
 abbrev opened : Option Session → List Item
 opened None = []
@@ -57,32 +55,26 @@ record Holds (p : Progress) (said : List Item) : Type 0 where
   count : p.commands ≡ commands_in p.done + commands_open p.current
   short : p.commands ≤ 16384
   fresh : IsFresh p.current p.done
-  ready : list_all is_ready_item said ≡ true
 
 -- ---- what an accepted item tells
 
 record IsAccepted (p : Progress) (item : Item) (q : Progress) : Type 0 where
-  ready : is_ready (verb_for item) ≡ true
   placed : is_placed p (verb_for item) ≡ true
   entered_so : entered p item ≡ Ok q
 
 is_accepted : (p : Progress) (item : Item) (q : Progress) → accepted p item ≡ Ok q → IsAccepted p item q
 is_accepted p item q e =
-    let a = if_ok (is_ready (verb_for item)) causes.Unbuilt (cond (is_placed p (verb_for item)) (entered p item) (Err causes.Misplaced)) q e in
-    let b = if_ok (is_placed p (verb_for item)) causes.Misplaced (entered p item) q a.1 in
-    record { ready = a.0; placed = b.0; entered_so = b.1 }
-
-ready_push : (said : List Item) (item : Item) → list_all is_ready_item said ≡ true → is_ready (verb_for item) ≡ true → list_all is_ready_item (said ++ item ∷ []) ≡ true
-ready_push said item h k = list_all-append is_ready_item said (item ∷ []) ∙ and_from (list_all is_ready_item said) (is_ready_item item && true) h (and_from (is_ready_item item) true k refl)
+    let a = if_ok (is_placed p (verb_for item)) causes.Misplaced (entered p item) q e in
+    record { placed = a.0; entered_so = a.1 }
 
 -- ---- each item keeps what holds
 
 keeps_setting : (s : Setting) (g : Settings) (done : List Session) (current : Option Session) (n : ℕ) (q : Progress) (said : List Item)
-    → (let p : Progress = record { settings = g; done = done; current = current; commands = n } in Holds p said → is_ready (setting_verb s) ≡ true → is_fresh p ≡ true
+    → (let p : Progress = record { settings = g; done = done; current = current; commands = n } in Holds p said → is_fresh p ≡ true
     → (chosen g s >>= λ next. Ok (record p { settings = next })) ≡ Ok q → Holds q (said ++ items.Set s ∷ []))
-keeps_setting s g done (Some x) n q said h ready placed e = absurd cc
-keeps_setting s g (d ∷ ds) None n q said h ready placed e = let z : length (d ∷ ds) ≡ 0 = eqb-true (length (d ∷ ds)) 0 placed in absurd (omega arith)
-keeps_setting s g [] None n q said h ready placed e =
+keeps_setting s g done (Some x) n q said h placed e = absurd cc
+keeps_setting s g (d ∷ ds) None n q said h placed e = let z : length (d ∷ ds) ≡ 0 = eqb-true (length (d ∷ ds)) 0 placed in absurd (omega arith)
+keeps_setting s g [] None n q said h placed e =
     let a = bind_ok (chosen g s) (λ next. Ok (between next [] n)) q e in
     let o : List Item = map items.Set h.options in
     let front : said ≡ o = h.spelled ∙ append-nil (o ++ []) ∙ append-nil o in
@@ -98,14 +90,13 @@ keeps_setting s g [] None n q said h ready placed e =
       count = h.count;
       short = h.short;
       fresh = tt;
-      ready = ready_push said (items.Set s) h.ready ready;
     })
 
 keeps_begin : (name : List ℕ) (g : Settings) (done : List Session) (current : Option Session) (n : ℕ) (q : Progress) (said : List Item)
-    → (let p : Progress = record { settings = g; done = done; current = current; commands = n } in Holds p said → is_ready verbs.Session ≡ true → is_none current ≡ true
+    → (let p : Progress = record { settings = g; done = done; current = current; commands = n } in Holds p said → is_none current ≡ true
     → cond (list_any (is_called name) done) (Err causes.Duplicate) (cond (ltb (length done) 16) (Ok (inside g done name [] n)) (Err causes.Many)) ≡ Ok q → Holds q (said ++ items.Begin name ∷ []))
-keeps_begin name g done (Some s) n q said h ready placed e = absurd cc
-keeps_begin name g done None n q said h ready placed e =
+keeps_begin name g done (Some s) n q said h placed e = absurd cc
+keeps_begin name g done None n q said h placed e =
     let a = unless_ok (list_any (is_called name) done) causes.Duplicate (cond (ltb (length done) 16) (Ok (inside g done name [] n)) (Err causes.Many)) q e in
     let b = if_ok (ltb (length done) 16) causes.Many (Ok (inside g done name [] n)) q a.1 in
     let room : length done < 16 = ltb-true (length done) 16 b.0 in
@@ -119,13 +110,12 @@ keeps_begin name g done None n q said h ready placed e =
       count = h.count;
       short = h.short;
       fresh = a.0;
-      ready = ready_push said (items.Begin name) h.ready ready;
     })
 
 keeps_command : (c : Command) (g : Settings) (done : List Session) (current : Option Session) (n : ℕ) (q : Progress) (said : List Item)
-    → (let p : Progress = record { settings = g; done = done; current = current; commands = n } in Holds p said → is_ready (verb_for (items.Do c)) ≡ true → with_command p c current ≡ Ok q → Holds q (said ++ items.Do c ∷ []))
-keeps_command c g done None n q said h ready e = absurd cc
-keeps_command c g done (Some s) n q said h ready e =
+    → (let p : Progress = record { settings = g; done = done; current = current; commands = n } in Holds p said → with_command p c current ≡ Ok q → Holds q (said ++ items.Do c ∷ []))
+keeps_command c g done None n q said h e = absurd cc
+keeps_command c g done (Some s) n q said h e =
     let a = if_ok (ltb n 16384) causes.Many (Ok (inside g done s.name (s.commands ++ c ∷ []) (n + 1))) q e in
     let room : n < 16384 = ltb-true n 16384 a.0 in
     let front : List Item = script_items h.options done in
@@ -140,7 +130,6 @@ keeps_command c g done (Some s) n q said h ready e =
       count = omega (arith, h.count, length-append s.commands (c ∷ []));
       short = omega arith;
       fresh = h.fresh;
-      ready = ready_push said (items.Do c) h.ready ready;
     })
 
 called_none : (name : List ℕ) (s : Session) → is_called name s ≡ false → s.name ≢ name
@@ -161,9 +150,9 @@ commands_push [] s = omega arith
 commands_push (d ∷ ds) s = omega (arith, commands_push ds s)
 
 keeps_end : (g : Settings) (done : List Session) (current : Option Session) (n : ℕ) (q : Progress) (said : List Item)
-    → (let p : Progress = record { settings = g; done = done; current = current; commands = n } in Holds p said → is_ready verbs.End ≡ true → with_end p current ≡ Ok q → Holds q (said ++ items.End ∷ []))
-keeps_end g done None n q said h ready e = absurd cc
-keeps_end g done (Some s) n q said h ready e =
+    → (let p : Progress = record { settings = g; done = done; current = current; commands = n } in Holds p said → with_end p current ≡ Ok q → Holds q (said ++ items.End ∷ []))
+keeps_end g done None n q said h e = absurd cc
+keeps_end g done (Some s) n q said h e =
     let o : List Item = map items.Set h.options in
     let f : List Item = flat_map session_items done in
     let body : List Item = items.Begin s.name ∷ map items.Do s.commands in
@@ -181,15 +170,14 @@ keeps_end g done (Some s) n q said h ready e =
       count = omega (arith, h.count, commands_push done s);
       short = h.short;
       fresh = tt;
-      ready = ready_push said items.End h.ready ready;
     })
 
 keeps : (p : Progress) (item : Item) (q : Progress) (said : List Item) → Holds p said → accepted p item ≡ Ok q → Holds q (said ++ item ∷ [])
 unfolding entered
-keeps p (items.Set s) q said h e = let a = is_accepted p (items.Set s) q e in keeps_setting s p.settings p.done p.current p.commands q said h a.ready (sym (setting_placed p s) ∙ a.placed) a.entered_so
-keeps p (items.Begin name) q said h e = let a = is_accepted p (items.Begin name) q e in keeps_begin name p.settings p.done p.current p.commands q said h a.ready a.placed a.entered_so
-keeps p (items.Do c) q said h e = let a = is_accepted p (items.Do c) q e in keeps_command c p.settings p.done p.current p.commands q said h a.ready a.entered_so
-keeps p items.End q said h e = let a = is_accepted p items.End q e in keeps_end p.settings p.done p.current p.commands q said h a.ready a.entered_so
+keeps p (items.Set s) q said h e = let a = is_accepted p (items.Set s) q e in keeps_setting s p.settings p.done p.current p.commands q said h a.placed a.entered_so
+keeps p (items.Begin name) q said h e = let a = is_accepted p (items.Begin name) q e in keeps_begin name p.settings p.done p.current p.commands q said h a.placed a.entered_so
+keeps p (items.Do c) q said h e = let a = is_accepted p (items.Do c) q e in keeps_command c p.settings p.done p.current p.commands q said h a.entered_so
+keeps p items.End q said h e = let a = is_accepted p items.End q e in keeps_end p.settings p.done p.current p.commands q said h a.entered_so
 
 runs_hold : (more : List Item) (p q : Progress) (said : List Item) → Holds p said → run p more ≡ Ok q → Holds q (said ++ more)
 runs_hold [] p q said h e = subst (λ (l : List Item). Holds q l) (sym (append-nil said)) (subst (λ (r : Progress). Holds r said) (ok_is p q e) h)
@@ -198,7 +186,7 @@ runs_hold (item ∷ more) p q said h e =
     subst (λ (l : List Item). Holds q l) (append_assoc said (item ∷ []) more) (runs_hold more a.0 q (said ++ item ∷ []) (keeps p item a.0 said h a.1) a.2)
 
 starts : Holds start []
-starts = record { options = []; given = record { pool = refl; passes = refl; stride = refl }; spelled = refl; differ = tt; few = omega arith; count = refl; short = omega arith; fresh = tt; ready = refl }
+starts = record { options = []; given = record { pool = refl; passes = refl; stride = refl }; spelled = refl; differ = tt; few = omega arith; count = refl; short = omega arith; fresh = tt }
 
 -- ---- the whole
 
@@ -231,7 +219,6 @@ read_is_spelled bytes s e =
       differ = h.differ;
       few = omega (arith, h.few);
       short = omega (arith, h.count, h.short, none);
-      built = ap (list_all is_ready_item) (sym said) ∙ h.ready;
     })
 
 pub is_found : (bytes : List ℕ) (r : Result Script ReadRefused) → Reads (λ s. s) r (read_of bytes) → IfOk r (λ s. Spells bytes s)

@@ -1,26 +1,23 @@
 -- What is spelled is within the limits.
 use Rattle.std.proofs.Common.{◌≡◌, ℕ, ◌≤◌, true, List, [], ◌∷◌, ◌++◌, map, Option, Result, Ok, Err, sym, ap, ◌∙◌, subst, arith, inl, inr}
 use Rattle.std.specs.Prelude.{IfOk}
-use Rattle.std.specs.List.{All, list_all, flat_map}
-use Rattle.std.proofs.lemmas.Bool.{and_parts}
+use Rattle.std.specs.List.{All, AllByRecursion, flat_map}
 use Rattle.std.proofs.lemmas.List.Concat.{flat_map-cons}
 use Rattle.std.proofs.lemmas.List.Elements.{All-nil, All-cons}
-use Rattle.std.proofs.lemmas.List.Folds.{list_all-append}
 use Rattle.script_words.specs.Spelling.{IsName}
 use Rattle.plain_cord.specs.declared.script.Command.{Command}
-use Rattle.plain_cord.specs.declared.script.Command.TheVariants as commands
+use Rattle.script_words.specs.Table.{Form, OfName, OfNameText, OfNameNumber, OfNameCell, OfCellName, OfTwoNames, OfSub, form_of}
+use Rattle.script_words.specs.Forms.{form_names, IsFormWithin}
 use Rattle.plain_cord.specs.declared.script.Session.{Session}
 use Rattle.plain_cord.specs.declared.script.Script.{Script}
-use Rattle.script_reader.specs.declared.verbs.Verb.TheVariants as verbs
-use Rattle.script_reader.specs.declared.progress.Setting.{Setting}
-use Rattle.script_reader.specs.declared.progress.Setting.TheVariants as settings
+use Rattle.script_words.specs.declared.verbs.Setting.{Setting}
+use Rattle.script_words.specs.declared.verbs.Setting.TheVariants as settings
 use Rattle.script_reader.specs.declared.progress.Item.{Item}
 use Rattle.script_reader.specs.declared.progress.Item.TheVariants as items
 use Rattle.script_reader.specs.declared.fault.ReadRefused.{ReadRefused}
-use Rattle.script_reader.specs.Built.{is_ready}
-use Rattle.script_reader.specs.Spelling.{SaysSetting, SaysCommand, Says}
-use Rattle.script_reader.specs.ScriptSpelling.{SpellsLines, numbers, pool_number, passes_number, stride_number, IsGiven, session_items, script_items, is_ready_item, Spells}
-use Rattle.script_reader.specs.Limits.{HasSoundParts, IsSoundCommand, IsSoundSession, IsWithinLimits}
+use Rattle.script_reader.specs.Spelling.{SaysSetting, SaysForm, Says}
+use Rattle.script_reader.specs.ScriptSpelling.{SpellsLines, numbers, pool_number, passes_number, stride_number, IsGiven, session_items, script_items, Spells}
+use Rattle.script_reader.specs.Limits.{IsSoundCommand, IsSoundSession, IsWithinLimits}
 
 abbrev IsSoundSetting : Setting → Type 0
 IsSoundSetting (settings.Pool n) = (1 ≤ n) × (n ≤ 262144)
@@ -30,41 +27,21 @@ IsSoundSetting (settings.Stride n) = n ≤ 1000000
 abbrev IsSound : Item → Type 0
 IsSound (items.Set setting) = IsSoundSetting setting
 IsSound (items.Begin name) = IsName name
-IsSound (items.Do command) = HasSoundParts command
+IsSound (items.Do command) = IsSoundCommand command
 IsSound items.End = Unit {0}
 
 abbrev AreSound : List Item → Type 0
 AreSound [] = Unit {0}
 AreSound (item ∷ more) = IsSound item × AreSound more
 
-command_sound : (command : Command) (rest : Option (List ℕ)) → SaysCommand rest command → HasSoundParts command
-command_sound (commands.Let a text) rest h = (h.2, (h.3.long, h.3.fits))
-command_sound (commands.Ext a text) rest h = (h.2, (h.3.long, h.3.fits))
-command_sound (commands.Append a text) rest h = (h.2, (h.3.long, h.3.fits))
-command_sound (commands.Prepend a text) rest h = (h.2, (h.3.long, h.3.fits))
-command_sound (commands.Find a text) rest h = (h.2, (h.3.long, h.3.fits))
-command_sound (commands.Starts a text) rest h = (h.2, (h.3.long, h.3.fits))
-command_sound (commands.Ends a text) rest h = (h.2, (h.3.long, h.3.fits))
-command_sound (commands.Copy a b) rest h = (h.1, h.2)
-command_sound (commands.Join a b) rest h = (h.1, h.2)
-command_sound (commands.JoinFront a b) rest h = (h.1, h.2)
-command_sound (commands.Compare a b) rest h = (h.1, h.2)
-command_sound (commands.Clear a) rest h = h.1
-command_sound (commands.Sum a) rest h = h.1
-command_sound (commands.Size a) rest h = h.1
-command_sound (commands.Print a) rest h = h.1
-command_sound (commands.CutFront a n) rest h = (h.2, omega (arith, h.5))
-command_sound (commands.CutBack a n) rest h = (h.2, omega (arith, h.5))
-command_sound (commands.At a n) rest h = (h.2, omega (arith, h.5))
-command_sound (commands.SetSum a n) rest h = (h.2, omega (arith, h.5))
-command_sound (commands.Put a n) rest h = (h.2, omega (arith, h.5))
-command_sound (commands.Swap a n) rest h = (h.2, omega (arith, h.5))
-command_sound (commands.Take n a) rest h = (h.2, omega (arith, h.5))
-command_sound (commands.Peek n a) rest h = (h.2, omega (arith, h.5))
-command_sound (commands.Sub a pos n b) rest h = (h.3, h.4, h.5.small, h.6.small)
-command_sound commands.Snap rest h = tt
-command_sound commands.Walk rest h = tt
-command_sound commands.Unsnap rest h = tt
+form_sound : (form : Form) (rest : Option (List ℕ)) → SaysForm rest form → AllByRecursion IsName (form_names form) × IsFormWithin form
+form_sound (OfName v a) rest h = ((h.1, tt), tt)
+form_sound (OfNameText v a text) rest h = ((h.2, tt), (h.3.long, h.3.fits))
+form_sound (OfNameNumber v a n) rest h = ((h.2, tt), h.5)
+form_sound (OfNameCell v a cell) rest h = ((h.2, tt), omega (arith, h.5))
+form_sound (OfCellName v cell a) rest h = ((h.2, tt), omega (arith, h.5))
+form_sound (OfTwoNames v a b) rest h = ((h.1, (h.2, tt)), tt)
+form_sound (OfSub a pos n b) rest h = ((h.3, (h.4, tt)), (h.5.small, h.6.small))
 
 setting_sound : (setting : Setting) (rest : Option (List ℕ)) → SaysSetting rest setting → IsSoundSetting setting
 setting_sound (settings.Pool n) rest h = (h.3, h.4)
@@ -74,7 +51,7 @@ setting_sound (settings.Stride n) rest h = h.4
 item_sound : (item : Item) (rest : Option (List ℕ)) → Says rest item → IsSound item
 item_sound (items.Set setting) rest h = setting_sound setting rest h
 item_sound (items.Begin name) rest h = h.1
-item_sound (items.Do command) rest h = command_sound command rest h
+item_sound (items.Do command) rest h = let sound = form_sound (form_of command) rest h in record { names = sound.0; within = sound.1 }
 item_sound items.End rest h = tt
 
 lines_sound : (lines : List (List ℕ)) (said : List Item) → SpellsLines lines said → AreSound said
@@ -85,9 +62,6 @@ lines_sound (l ∷ ls) said (inr h) = subst AreSound (sym h.2) (item_sound h.0 h
 sound_parts : (xs ys : List Item) → AreSound (xs ++ ys) → AreSound xs × AreSound ys
 sound_parts [] ys h = (tt, h)
 sound_parts (x ∷ xs) ys h = let a = sound_parts xs ys h.1 in ((h.0, a.0), a.1)
-
-ready_parts : (xs ys : List Item) → list_all is_ready_item (xs ++ ys) ≡ true → (list_all is_ready_item xs ≡ true) × (list_all is_ready_item ys ≡ true)
-ready_parts xs ys h = and_parts (list_all is_ready_item xs) (list_all is_ready_item ys) (sym (list_all-append is_ready_item xs ys) ∙ h)
 
 -- ---- options
 
@@ -123,32 +97,26 @@ given_stride ss n h (inr k) = stride_sound ss n h k
 
 -- ---- sessions
 
-commands_sound : (cs : List Command) → AreSound (map items.Do cs) → list_all is_ready_item (map items.Do cs) ≡ true → All IsSoundCommand cs
-commands_sound [] h ready = All-nil IsSoundCommand
-commands_sound (c ∷ cs) h ready =
-    let a = and_parts (is_ready_item (items.Do c)) (list_all is_ready_item (map items.Do cs)) ready in
-    All-cons IsSoundCommand c cs (record { built = a.0; parts = h.0 }) (commands_sound cs h.1 a.1)
+commands_sound : (cs : List Command) → AreSound (map items.Do cs) → All IsSoundCommand cs
+commands_sound [] h = All-nil IsSoundCommand
+commands_sound (c ∷ cs) h = All-cons IsSoundCommand c cs h.0 (commands_sound cs h.1)
 
-session_sound : (s : Session) → AreSound (session_items s) → list_all is_ready_item (session_items s) ≡ true → IsSoundSession s
-session_sound s h ready =
-    let a = and_parts (is_ready verbs.Session) (list_all is_ready_item (map items.Do s.commands ++ items.End ∷ [])) ready in
-    let b = ready_parts (map items.Do s.commands) (items.End ∷ []) a.1 in
+session_sound : (s : Session) → AreSound (session_items s) → IsSoundSession s
+session_sound s h =
     let c = sound_parts (map items.Do s.commands) (items.End ∷ []) h.1 in
-    record { name = h.0; commands = commands_sound s.commands c.0 b.0 }
+    record { name = h.0; commands = commands_sound s.commands c.0 }
 
-sessions_sound : (ss : List Session) → AreSound (flat_map session_items ss) → list_all is_ready_item (flat_map session_items ss) ≡ true → All IsSoundSession ss
-sessions_sound [] h ready = All-nil IsSoundSession
-sessions_sound (s ∷ ss) h ready =
+sessions_sound : (ss : List Session) → AreSound (flat_map session_items ss) → All IsSoundSession ss
+sessions_sound [] h = All-nil IsSoundSession
+sessions_sound (s ∷ ss) h =
     let a = sound_parts (session_items s) (flat_map session_items ss) (subst AreSound (flat_map-cons session_items s ss) h) in
-    let b = ready_parts (session_items s) (flat_map session_items ss) (ap (list_all is_ready_item) (sym (flat_map-cons session_items s ss)) ∙ ready) in
-    All-cons IsSoundSession s ss (session_sound s a.0 b.0) (sessions_sound ss a.1 b.1)
+    All-cons IsSoundSession s ss (session_sound s a.0) (sessions_sound ss a.1)
 
 -- ---- the whole
 
 pub spelled_within : (bytes : List ℕ) (s : Script) → Spells bytes s → IsWithinLimits s
 spelled_within bytes s h =
     let a = sound_parts (map items.Set h.options) (flat_map session_items s.sessions) (lines_sound h.lines (script_items h.options s.sessions) h.spelled) in
-    let b = ready_parts (map items.Set h.options) (flat_map session_items s.sessions) h.built in
     let pool = given_pool h.options s.pool a.0 h.given.pool in
     let passes = given_passes h.options s.passes a.0 h.given.passes in
     record {
@@ -157,7 +125,7 @@ spelled_within bytes s h =
       some_passes = passes.0;
       passes = passes.1;
       stride = given_stride h.options s.stride a.0 h.given.stride;
-      sessions = sessions_sound s.sessions a.1 b.1;
+      sessions = sessions_sound s.sessions a.1;
       differ = h.differ;
       few = h.few;
       short = h.short;

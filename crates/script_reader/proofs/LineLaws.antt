@@ -1,131 +1,74 @@
 -- A line that is read is spelled so, and one that is spelled so is read.
 use Rattle.std.proofs.Common.{◌≡◌, ℕ, ◌-◌, ◌^◌, Bool, true, false, cond, List, [], ◌∷◌, ◌++◌, Option, Some, None, Result, Ok, Err, refl, sym, ap, ◌∙◌, subst, arith}
-use Rattle.std.specs.Prelude.{is_none}
+use Rattle.std.specs.Prelude.{is_none, ◌&&◌}
 use Rattle.std.specs.List.{list_all}
-use Rattle.std.specs.Str.{bytes_eq}
-use Rattle.std.proofs.lemmas.Slice.Eq.{bytes_eq-Decides}
+use Rattle.std.proofs.lemmas.Bool.{and_parts}
 use Rattle.script_words.specs.declared.fault.Cause.{Cause}
 use Rattle.script_words.specs.declared.fault.Cause.TheVariants as causes
 use Rattle.plain_cord.specs.declared.script.Text.{Text}
-use Rattle.script_reader.specs.declared.verbs.Verb.{Verb}
-use Rattle.script_reader.specs.declared.verbs.Verb.TheVariants as verbs
-use Rattle.script_reader.specs.declared.progress.Item.{Item}
-use Rattle.script_reader.specs.declared.progress.Item.TheVariants as items
-use Rattle.script_reader.specs.declared.progress.Setting.{Setting}
-use Rattle.script_reader.specs.declared.progress.Setting.TheVariants as settings
 use Rattle.plain_cord.specs.declared.script.Command.{Command}
 use Rattle.plain_cord.specs.declared.script.Command.TheVariants as commands
+use Rattle.script_words.specs.declared.verbs.CommandVerb.{CommandVerb}
+use Rattle.script_words.specs.declared.verbs.CommandVerb.TheVariants as kinds
+use Rattle.script_words.specs.declared.verbs.SettingVerb.{SettingVerb}
+use Rattle.script_words.specs.declared.verbs.SettingVerb.TheVariants as setting_verbs
+use Rattle.script_words.specs.declared.verbs.Setting.{Setting}
+use Rattle.script_words.specs.declared.verbs.Setting.TheVariants as settings
+use Rattle.script_words.specs.declared.verbs.Verb.{Verb}
+use Rattle.script_words.specs.declared.verbs.Verb.TheVariants as verbs
+use Rattle.script_words.specs.declared.verbs.FirstWord.{FirstWord}
+use Rattle.script_words.specs.declared.verbs.FirstWord.TheVariants as firsts
+use Rattle.script_reader.specs.declared.progress.Item.{Item}
+use Rattle.script_reader.specs.declared.progress.Item.TheVariants as items
 use Rattle.script_words.specs.Reading.{◌>>=◌}
-use Rattle.script_words.specs.Words.{cut, word_at, last_word_at, part_at, name_at, is_name_byte, is_shown}
+use Rattle.script_words.specs.Words.{cut, word_at, last_word_at, part_at, name_at, is_letter, is_name_byte, is_shown}
 use Rattle.script_words.specs.Numbers.{number_at}
 use Rattle.script_words.specs.Texts.{text_at}
-use Rattle.script_reader.specs.Lines.{word_of, all_verbs, verb_in, verb_of, known, verb_at, name_line, number_line, name_text_line, name_number_line, number_name_line, sub_line, two_names_line, item_at}
+use Rattle.script_words.specs.Table.{word_of_table, least_of, most_of, least_setting, most_setting, name_command, name_text_command, name_number_command, name_cell_command, cell_name_command, two_names_command, setting_of, Form, OfName, OfNameText, OfNameNumber, OfNameCell, OfCellName, OfTwoNames, OfSub, command_of, form_of, verb_in}
+use Rattle.script_reader.specs.Lines.{known, verb_at, name_line, number_line, name_text_line, name_number_line, number_name_line, sub_line, two_names_line, command_at, item_at}
 use Rattle.script_words.specs.Spelling.{joined}
-use Rattle.script_reader.specs.Spelling.{command_verb, setting_verb, verb_for, SaysName, SaysNumber, SaysNameText, SaysNameNumber, SaysTwoNames, SaysNumberName, SaysSub, SaysCommand, SaysSetting, Says, SpellsItem}
+use Rattle.script_reader.specs.Spelling.{setting_verb, setting_number, verb_for, SaysName, SaysNumber, SaysNameText, SaysNameNumber, SaysTwoNames, SaysNumberName, SaysSub, SaysForm, SaysSetting, Says, SpellsItem}
 use Rattle.script_words.proofs.Results.{bind_ok, if_ok, ok_is}
+use Rattle.script_words.proofs.TableLaws.{command_of_form, form_of_command, is_word, built_word}
 use Rattle.script_words.proofs.NumberLaws.{number_found, number_again}
 use Rattle.script_words.proofs.TextLaws.{text_found, text_again}
 use Rattle.script_words.proofs.WordLaws.{free_all, name_byte_free, name_byte_shown, all_weaker, cut_found, cut_again, word_found, word_again, last_word_found, last_word_again, part_found, part_again, none_is, name_found, name_again, name_long, name_free, name_shown, number_free, number_long, number_shown, text_shown, text_long, joined_shown}
 
 -- ---- the first word
 
-verb_in_found : (vs : List Verb) (w : List ℕ) (v : Verb) → verb_in vs w ≡ Some v → w ≡ word_of v
-verb_in_found [] w v e = absurd cc
-verb_in_found (u ∷ us) w v e = by_test (verb_in_found us w v) (bytes_eq w (word_of u)) refl e
-  where
-    by_test : (verb_in us w ≡ Some v → w ≡ word_of v) → (t : Bool) → bytes_eq w (word_of u) ≡ t → cond t (Some u) (verb_in us w) ≡ Some v → w ≡ word_of v
-    by_test more true is f = (bytes_eq-Decides w (word_of u)).0 is ∙ ap word_of (let same : u ≡ v = cc in same)
-    by_test more false is f = more f
-
-letters : (v : Verb) → list_all is_name_byte (word_of v) ≡ true
-letters verbs.Pool = refl
-letters verbs.Passes = refl
-letters verbs.Stride = refl
-letters verbs.Session = refl
-letters verbs.End = refl
-letters verbs.Let = refl
-letters verbs.Ext = refl
-letters verbs.Append = refl
-letters verbs.Prepend = refl
-letters verbs.Find = refl
-letters verbs.Starts = refl
-letters verbs.Ends = refl
-letters verbs.Copy = refl
-letters verbs.Join = refl
-letters verbs.JoinFront = refl
-letters verbs.Compare = refl
-letters verbs.Clear = refl
-letters verbs.Sum = refl
-letters verbs.Size = refl
-letters verbs.Print = refl
-letters verbs.CutFront = refl
-letters verbs.CutBack = refl
-letters verbs.At = refl
-letters verbs.SetSum = refl
-letters verbs.Put = refl
-letters verbs.Swap = refl
-letters verbs.Take = refl
-letters verbs.Peek = refl
-letters verbs.Sub = refl
-letters verbs.Snap = refl
-letters verbs.Walk = refl
-letters verbs.Unsnap = refl
-
-own_word : (v : Verb) → verb_of (word_of v) ≡ Some v
-own_word verbs.Pool = refl
-own_word verbs.Passes = refl
-own_word verbs.Stride = refl
-own_word verbs.Session = refl
-own_word verbs.End = refl
-own_word verbs.Let = refl
-own_word verbs.Ext = refl
-own_word verbs.Append = refl
-own_word verbs.Prepend = refl
-own_word verbs.Find = refl
-own_word verbs.Starts = refl
-own_word verbs.Ends = refl
-own_word verbs.Copy = refl
-own_word verbs.Join = refl
-own_word verbs.JoinFront = refl
-own_word verbs.Compare = refl
-own_word verbs.Clear = refl
-own_word verbs.Sum = refl
-own_word verbs.Size = refl
-own_word verbs.Print = refl
-own_word verbs.CutFront = refl
-own_word verbs.CutBack = refl
-own_word verbs.At = refl
-own_word verbs.SetSum = refl
-own_word verbs.Put = refl
-own_word verbs.Swap = refl
-own_word verbs.Take = refl
-own_word verbs.Peek = refl
-own_word verbs.Sub = refl
-own_word verbs.Snap = refl
-own_word verbs.Walk = refl
-own_word verbs.Unsnap = refl
-
-known_found : (o : Option Verb) (r : Option (List ℕ)) (x : Verb × Option (List ℕ)) → known o r ≡ Ok x → (o ≡ Some x.0) × (r ≡ x.1)
-known_found None r x e = absurd cc
-known_found (Some v) r x e =
+known_found : (o : FirstWord) (r : Option (List ℕ)) (x : Verb × Option (List ℕ)) → known o r ≡ Ok x → (o ≡ firsts.Built x.0) × (r ≡ x.1)
+known_found firsts.Unknown r x e = absurd cc
+known_found firsts.Unbuilt r x e = absurd cc
+known_found (firsts.Built v) r x e =
     let made : Verb × Option (List ℕ) = (v, r) in
     let same : made ≡ x = ok_is made x e in
-    (ap (λ (y : Verb × Option (List ℕ)). Some y.0) same, ap (λ (y : Verb × Option (List ℕ)). y.1) same)
+    (ap (λ (y : Verb × Option (List ℕ)). firsts.Built y.0) same, ap (λ (y : Verb × Option (List ℕ)). y.1) same)
 
-pub verb_found : (line : List ℕ) (x : Verb × Option (List ℕ)) → verb_at line ≡ Ok x → line ≡ joined (word_of x.0) x.1
+-- the first word of a line that has one
+pub record HasVerb (line : List ℕ) (verb : Verb) (rest : Option (List ℕ)) : Type 0 where
+  pub word : List ℕ
+  pub words : line ≡ joined word rest
+  pub built : word_of_table word ≡ firsts.Built verb
+
+pub verb_found : (line : List ℕ) (x : Verb × Option (List ℕ)) → verb_at line ≡ Ok x → HasVerb line x.0 x.1
 unfolding verb_at
 verb_found line x e =
-    let a = if_ok (list_all is_shown line) causes.Byte (known (verb_of (cut 32 line).0) (cut 32 line).1) x e in
-    let k = known_found (verb_of (cut 32 line).0) (cut 32 line).1 x a.1 in
-    cut_found line ∙ ap (λ (w : List ℕ). joined w (cut 32 line).1) (verb_in_found all_verbs (cut 32 line).0 x.0 k.0) ∙ ap (joined (word_of x.0)) k.1
+    let a = if_ok (list_all is_shown line) causes.Byte (known (word_of_table (cut 32 line).0) (cut 32 line).1) x e in
+    let k = known_found (word_of_table (cut 32 line).0) (cut 32 line).1 x a.1 in
+    record { word = (cut 32 line).0; words = cut_found line ∙ ap (joined (cut 32 line).0) k.1; built = k.0 }
 
-pub verb_again : (v : Verb) (r : Option (List ℕ)) → list_all is_shown (joined (word_of v) r) ≡ true → verb_at (joined (word_of v) r) ≡ Ok (v, r)
+-- the bytes of a first word are letters and digits
+word_bytes : (word : List ℕ) → is_word word ≡ true → list_all is_name_byte word ≡ true
+word_bytes [] is = refl
+word_bytes (c ∷ cs) is = (and_parts (is_letter c) (list_all is_name_byte (c ∷ cs)) is).1
+
+pub verb_again : (word : List ℕ) (v : Verb) (r : Option (List ℕ)) → word_of_table word ≡ firsts.Built v → list_all is_shown (joined word r) ≡ true → verb_at (joined word r) ≡ Ok (v, r)
 unfolding verb_at
-verb_again v r shown =
-    let e = cut_again (word_of v) r (free_all is_name_byte name_byte_free (word_of v) (letters v)) in
-    ap (λ (t : Bool). let x : Result (Verb × Option (List ℕ)) Cause = cond t (known (verb_of (cut 32 (joined (word_of v) r)).0) (cut 32 (joined (word_of v) r)).1) (Err causes.Byte) in x) shown
-    ∙ ap (λ (p : List ℕ × Option (List ℕ)). known (verb_of p.0) p.1) e
-    ∙ ap (λ (o : Option Verb). known o r) (own_word v)
+verb_again word v r built shown =
+    let e = cut_again word r (free_all is_name_byte name_byte_free word (word_bytes word (built_word word v built))) in
+    ap (λ (t : Bool). let x : Result (Verb × Option (List ℕ)) Cause = cond t (known (word_of_table (cut 32 (joined word r)).0) (cut 32 (joined word r)).1) (Err causes.Byte) in x) shown
+    ∙ ap (λ (p : List ℕ × Option (List ℕ)). known (word_of_table p.0) p.1) e
+    ∙ ap (λ (o : FirstWord). known o r) built
 
 -- ---- the kinds of lines
 
@@ -272,75 +215,71 @@ sub_again rest a pos n b h =
 
 -- ---- every item
 
-abbrev IsSaid : Verb → Option (List ℕ) → Item → Type 0
-IsSaid v rest item = (verb_for item ≡ v) × Says rest item
+-- a command that is read has the form of what stands there
+abbrev IsSaid : CommandVerb → Option (List ℕ) → Command → Type 0
+IsSaid verb rest command = (verb_in (form_of command) ≡ verb) × SaysForm rest (form_of command)
 
-pub item_found : (v : Verb) (rest : Option (List ℕ)) (item : Item) → item_at v rest ≡ Ok item → IsSaid v rest item
+said_form : (form : Form) (rest : Option (List ℕ)) → SaysForm rest form → IsSaid (verb_in form) rest (command_of form)
+said_form form rest h = (ap verb_in (form_of_command form), subst (SaysForm rest) (sym (form_of_command form)) h)
+
+command_found : (verb : CommandVerb) (rest : Option (List ℕ)) (command : Command) → command_at verb rest ≡ Ok command → IsSaid verb rest command
+unfolding command_at
+command_found (kinds.Name v) rest command e =
+    let a = bind_ok (name_line rest) (λ x. Ok (name_command v x)) command e in
+    subst (IsSaid (kinds.Name v) rest) (ok_is (name_command v a.0) command a.2) (said_form (OfName v a.0) rest (name_line_found rest a.0 a.1))
+command_found (kinds.NameText v) rest command e =
+    let a = bind_ok (name_text_line (least_of v) rest) (λ x. Ok (name_text_command v x.0 x.1)) command e in
+    subst (IsSaid (kinds.NameText v) rest) (ok_is (name_text_command v a.0.0 a.0.1) command a.2) (said_form (OfNameText v a.0.0 a.0.1) rest (name_text_found (least_of v) rest a.0 a.1))
+command_found (kinds.NameNumber v) rest command e =
+    let a = bind_ok (name_number_line 0 (most_of v) rest) (λ x. Ok (name_number_command v x.0 x.1)) command e in
+    subst (IsSaid (kinds.NameNumber v) rest) (ok_is (name_number_command v a.0.0 a.0.1) command a.2) (said_form (OfNameNumber v a.0.0 a.0.1) rest (name_number_found 0 (most_of v) rest a.0 a.1))
+command_found (kinds.NameCell v) rest command e =
+    let a = bind_ok (name_number_line 0 63 rest) (λ x. Ok (name_cell_command v x.0 x.1)) command e in
+    subst (IsSaid (kinds.NameCell v) rest) (ok_is (name_cell_command v a.0.0 a.0.1) command a.2) (said_form (OfNameCell v a.0.0 a.0.1) rest (name_number_found 0 63 rest a.0 a.1))
+command_found (kinds.CellName v) rest command e =
+    let a = bind_ok (number_name_line 0 63 rest) (λ x. Ok (cell_name_command v x.0 x.1)) command e in
+    subst (IsSaid (kinds.CellName v) rest) (ok_is (cell_name_command v a.0.0 a.0.1) command a.2) (said_form (OfCellName v a.0.0 a.0.1) rest (number_name_found 0 63 rest a.0 a.1))
+command_found (kinds.TwoNames v) rest command e =
+    let a = bind_ok (two_names_line rest) (λ x. Ok (two_names_command v x.0 x.1)) command e in
+    subst (IsSaid (kinds.TwoNames v) rest) (ok_is (two_names_command v a.0.0 a.0.1) command a.2) (said_form (OfTwoNames v a.0.0 a.0.1) rest (two_names_found rest a.0 a.1))
+command_found kinds.Sub rest command e =
+    let a = bind_ok (sub_line rest) (λ x. Ok (commands.Sub x.0 x.1 x.2 x.3)) command e in
+    subst (IsSaid kinds.Sub rest) (ok_is (commands.Sub a.0.0 a.0.1 a.0.2 a.0.3) command a.2) (said_form (OfSub a.0.0 a.0.1 a.0.2 a.0.3) rest (sub_found rest a.0 a.1))
+
+setting_verb_of : (v : SettingVerb) (n : ℕ) → setting_verb (setting_of v n) ≡ v
+setting_verb_of setting_verbs.Pool n = refl
+setting_verb_of setting_verbs.Passes n = refl
+setting_verb_of setting_verbs.Stride n = refl
+
+setting_said : (v : SettingVerb) (rest : Option (List ℕ)) (n : ℕ) → SaysNumber (least_setting v) (most_setting v) rest n → SaysSetting rest (setting_of v n)
+setting_said setting_verbs.Pool rest n h = h
+setting_said setting_verbs.Passes rest n h = h
+setting_said setting_verbs.Stride rest n h = h
+
+pub item_found : (v : Verb) (rest : Option (List ℕ)) (item : Item) → item_at v rest ≡ Ok item → (verb_for item ≡ v) × Says rest item
 unfolding item_at
-item_found verbs.Pool rest item e = let a = bind_ok (number_line 1 262144 rest) (λ n. Ok (items.Set (settings.Pool n))) item e in subst (IsSaid verbs.Pool rest) (ok_is (items.Set (settings.Pool a.0)) item a.2) (refl, number_line_found 1 262144 rest a.0 a.1)
-item_found verbs.Passes rest item e = let a = bind_ok (number_line 1 262144 rest) (λ n. Ok (items.Set (settings.Passes n))) item e in subst (IsSaid verbs.Passes rest) (ok_is (items.Set (settings.Passes a.0)) item a.2) (refl, number_line_found 1 262144 rest a.0 a.1)
-item_found verbs.Stride rest item e = let a = bind_ok (number_line 0 1000000 rest) (λ n. Ok (items.Set (settings.Stride n))) item e in subst (IsSaid verbs.Stride rest) (ok_is (items.Set (settings.Stride a.0)) item a.2) (refl, number_line_found 0 1000000 rest a.0 a.1)
-item_found verbs.Session rest item e = let a = bind_ok (name_line rest) (λ name. Ok (items.Begin name)) item e in subst (IsSaid verbs.Session rest) (ok_is (items.Begin a.0) item a.2) (refl, name_line_found rest a.0 a.1)
-item_found verbs.End rest item e = let a = if_ok (is_none rest) causes.Words (Ok items.End) item e in subst (IsSaid verbs.End rest) (ok_is items.End item a.1) (refl, none_is rest a.0)
-item_found verbs.Let rest item e = let a = bind_ok (name_text_line 0 rest) (λ x. Ok (items.Do (commands.Let x.0 x.1))) item e in subst (IsSaid verbs.Let rest) (ok_is (items.Do (commands.Let a.0.0 a.0.1)) item a.2) (refl, name_text_found 0 rest a.0 a.1)
-item_found verbs.Ext rest item e = let a = bind_ok (name_text_line 16 rest) (λ x. Ok (items.Do (commands.Ext x.0 x.1))) item e in subst (IsSaid verbs.Ext rest) (ok_is (items.Do (commands.Ext a.0.0 a.0.1)) item a.2) (refl, name_text_found 16 rest a.0 a.1)
-item_found verbs.Append rest item e = let a = bind_ok (name_text_line 0 rest) (λ x. Ok (items.Do (commands.Append x.0 x.1))) item e in subst (IsSaid verbs.Append rest) (ok_is (items.Do (commands.Append a.0.0 a.0.1)) item a.2) (refl, name_text_found 0 rest a.0 a.1)
-item_found verbs.Prepend rest item e = let a = bind_ok (name_text_line 0 rest) (λ x. Ok (items.Do (commands.Prepend x.0 x.1))) item e in subst (IsSaid verbs.Prepend rest) (ok_is (items.Do (commands.Prepend a.0.0 a.0.1)) item a.2) (refl, name_text_found 0 rest a.0 a.1)
-item_found verbs.Find rest item e = let a = bind_ok (name_text_line 0 rest) (λ x. Ok (items.Do (commands.Find x.0 x.1))) item e in subst (IsSaid verbs.Find rest) (ok_is (items.Do (commands.Find a.0.0 a.0.1)) item a.2) (refl, name_text_found 0 rest a.0 a.1)
-item_found verbs.Starts rest item e = let a = bind_ok (name_text_line 0 rest) (λ x. Ok (items.Do (commands.Starts x.0 x.1))) item e in subst (IsSaid verbs.Starts rest) (ok_is (items.Do (commands.Starts a.0.0 a.0.1)) item a.2) (refl, name_text_found 0 rest a.0 a.1)
-item_found verbs.Ends rest item e = let a = bind_ok (name_text_line 0 rest) (λ x. Ok (items.Do (commands.Ends x.0 x.1))) item e in subst (IsSaid verbs.Ends rest) (ok_is (items.Do (commands.Ends a.0.0 a.0.1)) item a.2) (refl, name_text_found 0 rest a.0 a.1)
-item_found verbs.Copy rest item e = let a = bind_ok (two_names_line rest) (λ x. Ok (items.Do (commands.Copy x.0 x.1))) item e in subst (IsSaid verbs.Copy rest) (ok_is (items.Do (commands.Copy a.0.0 a.0.1)) item a.2) (refl, two_names_found rest a.0 a.1)
-item_found verbs.Join rest item e = let a = bind_ok (two_names_line rest) (λ x. Ok (items.Do (commands.Join x.0 x.1))) item e in subst (IsSaid verbs.Join rest) (ok_is (items.Do (commands.Join a.0.0 a.0.1)) item a.2) (refl, two_names_found rest a.0 a.1)
-item_found verbs.JoinFront rest item e = let a = bind_ok (two_names_line rest) (λ x. Ok (items.Do (commands.JoinFront x.0 x.1))) item e in subst (IsSaid verbs.JoinFront rest) (ok_is (items.Do (commands.JoinFront a.0.0 a.0.1)) item a.2) (refl, two_names_found rest a.0 a.1)
-item_found verbs.Compare rest item e = let a = bind_ok (two_names_line rest) (λ x. Ok (items.Do (commands.Compare x.0 x.1))) item e in subst (IsSaid verbs.Compare rest) (ok_is (items.Do (commands.Compare a.0.0 a.0.1)) item a.2) (refl, two_names_found rest a.0 a.1)
-item_found verbs.Clear rest item e = let a = bind_ok (name_line rest) (λ x. Ok (items.Do (commands.Clear x))) item e in subst (IsSaid verbs.Clear rest) (ok_is (items.Do (commands.Clear a.0)) item a.2) (refl, name_line_found rest a.0 a.1)
-item_found verbs.Sum rest item e = let a = bind_ok (name_line rest) (λ x. Ok (items.Do (commands.Sum x))) item e in subst (IsSaid verbs.Sum rest) (ok_is (items.Do (commands.Sum a.0)) item a.2) (refl, name_line_found rest a.0 a.1)
-item_found verbs.Size rest item e = let a = bind_ok (name_line rest) (λ x. Ok (items.Do (commands.Size x))) item e in subst (IsSaid verbs.Size rest) (ok_is (items.Do (commands.Size a.0)) item a.2) (refl, name_line_found rest a.0 a.1)
-item_found verbs.Print rest item e = let a = bind_ok (name_line rest) (λ x. Ok (items.Do (commands.Print x))) item e in subst (IsSaid verbs.Print rest) (ok_is (items.Do (commands.Print a.0)) item a.2) (refl, name_line_found rest a.0 a.1)
-item_found verbs.CutFront rest item e = let a = bind_ok (name_number_line 0 (2 ^ 64 - 1) rest) (λ x. Ok (items.Do (commands.CutFront x.0 x.1))) item e in subst (IsSaid verbs.CutFront rest) (ok_is (items.Do (commands.CutFront a.0.0 a.0.1)) item a.2) (refl, name_number_found 0 (2 ^ 64 - 1) rest a.0 a.1)
-item_found verbs.CutBack rest item e = let a = bind_ok (name_number_line 0 (2 ^ 64 - 1) rest) (λ x. Ok (items.Do (commands.CutBack x.0 x.1))) item e in subst (IsSaid verbs.CutBack rest) (ok_is (items.Do (commands.CutBack a.0.0 a.0.1)) item a.2) (refl, name_number_found 0 (2 ^ 64 - 1) rest a.0 a.1)
-item_found verbs.At rest item e = let a = bind_ok (name_number_line 0 (2 ^ 64 - 1) rest) (λ x. Ok (items.Do (commands.At x.0 x.1))) item e in subst (IsSaid verbs.At rest) (ok_is (items.Do (commands.At a.0.0 a.0.1)) item a.2) (refl, name_number_found 0 (2 ^ 64 - 1) rest a.0 a.1)
-item_found verbs.SetSum rest item e = let a = bind_ok (name_number_line 0 (2 ^ 32 - 1) rest) (λ x. Ok (items.Do (commands.SetSum x.0 x.1))) item e in subst (IsSaid verbs.SetSum rest) (ok_is (items.Do (commands.SetSum a.0.0 a.0.1)) item a.2) (refl, name_number_found 0 (2 ^ 32 - 1) rest a.0 a.1)
-item_found verbs.Put rest item e = let a = bind_ok (name_number_line 0 63 rest) (λ x. Ok (items.Do (commands.Put x.0 x.1))) item e in subst (IsSaid verbs.Put rest) (ok_is (items.Do (commands.Put a.0.0 a.0.1)) item a.2) (refl, name_number_found 0 63 rest a.0 a.1)
-item_found verbs.Swap rest item e = let a = bind_ok (name_number_line 0 63 rest) (λ x. Ok (items.Do (commands.Swap x.0 x.1))) item e in subst (IsSaid verbs.Swap rest) (ok_is (items.Do (commands.Swap a.0.0 a.0.1)) item a.2) (refl, name_number_found 0 63 rest a.0 a.1)
-item_found verbs.Take rest item e = let a = bind_ok (number_name_line 0 63 rest) (λ x. Ok (items.Do (commands.Take x.0 x.1))) item e in subst (IsSaid verbs.Take rest) (ok_is (items.Do (commands.Take a.0.0 a.0.1)) item a.2) (refl, number_name_found 0 63 rest a.0 a.1)
-item_found verbs.Peek rest item e = let a = bind_ok (number_name_line 0 63 rest) (λ x. Ok (items.Do (commands.Peek x.0 x.1))) item e in subst (IsSaid verbs.Peek rest) (ok_is (items.Do (commands.Peek a.0.0 a.0.1)) item a.2) (refl, number_name_found 0 63 rest a.0 a.1)
-item_found verbs.Sub rest item e = let a = bind_ok (sub_line rest) (λ x. Ok (items.Do (commands.Sub x.0 x.1 x.2 x.3))) item e in subst (IsSaid verbs.Sub rest) (ok_is (items.Do (commands.Sub a.0.0 a.0.1 a.0.2 a.0.3)) item a.2) (refl, sub_found rest a.0 a.1)
-item_found verbs.Snap rest item e = let a = if_ok (is_none rest) causes.Words (Ok (items.Do commands.Snap)) item e in subst (IsSaid verbs.Snap rest) (ok_is (items.Do commands.Snap) item a.1) (refl, none_is rest a.0)
-item_found verbs.Walk rest item e = let a = if_ok (is_none rest) causes.Words (Ok (items.Do commands.Walk)) item e in subst (IsSaid verbs.Walk rest) (ok_is (items.Do commands.Walk) item a.1) (refl, none_is rest a.0)
-item_found verbs.Unsnap rest item e = let a = if_ok (is_none rest) causes.Words (Ok (items.Do commands.Unsnap)) item e in subst (IsSaid verbs.Unsnap rest) (ok_is (items.Do commands.Unsnap) item a.1) (refl, none_is rest a.0)
+item_found (verbs.Set v) rest item e =
+    let a = bind_ok (number_line (least_setting v) (most_setting v) rest) (λ n. Ok (items.Set (setting_of v n))) item e in
+    subst (λ (i : Item). (verb_for i ≡ verbs.Set v) × Says rest i) (ok_is (items.Set (setting_of v a.0)) item a.2)
+    (ap verbs.Set (setting_verb_of v a.0), setting_said v rest a.0 (number_line_found (least_setting v) (most_setting v) rest a.0 a.1))
+item_found verbs.Session rest item e = let a = bind_ok (name_line rest) (λ name. Ok (items.Begin name)) item e in subst (λ (i : Item). (verb_for i ≡ verbs.Session) × Says rest i) (ok_is (items.Begin a.0) item a.2) (refl, name_line_found rest a.0 a.1)
+item_found verbs.End rest item e = let a = if_ok (is_none rest) causes.Words (Ok items.End) item e in subst (λ (i : Item). (verb_for i ≡ verbs.End) × Says rest i) (ok_is items.End item a.1) (refl, none_is rest a.0)
+item_found (verbs.Do v) rest item e =
+    let a = bind_ok (command_at v rest) (λ command. Ok (items.Do command)) item e in
+    let said = command_found v rest a.0 a.1 in
+    subst (λ (i : Item). (verb_for i ≡ verbs.Do v) × Says rest i) (ok_is (items.Do a.0) item a.2) (ap verbs.Do said.0, said.1)
 
-command_again : (command : Command) (rest : Option (List ℕ)) → SaysCommand rest command → item_at (command_verb command) rest ≡ Ok (items.Do command)
-unfolding item_at
-command_again (commands.Let a t) rest h = rw (name_text_again 0 rest a t h) refl
-command_again (commands.Ext a t) rest h = rw (name_text_again 16 rest a t h) refl
-command_again (commands.Append a t) rest h = rw (name_text_again 0 rest a t h) refl
-command_again (commands.Prepend a t) rest h = rw (name_text_again 0 rest a t h) refl
-command_again (commands.Find a t) rest h = rw (name_text_again 0 rest a t h) refl
-command_again (commands.Starts a t) rest h = rw (name_text_again 0 rest a t h) refl
-command_again (commands.Ends a t) rest h = rw (name_text_again 0 rest a t h) refl
-command_again (commands.Copy a b) rest h = rw (two_names_again rest a b h) refl
-command_again (commands.Join a b) rest h = rw (two_names_again rest a b h) refl
-command_again (commands.JoinFront a b) rest h = rw (two_names_again rest a b h) refl
-command_again (commands.Compare a b) rest h = rw (two_names_again rest a b h) refl
-command_again (commands.Clear a) rest h = rw (name_line_again rest a h) refl
-command_again (commands.Sum a) rest h = rw (name_line_again rest a h) refl
-command_again (commands.Size a) rest h = rw (name_line_again rest a h) refl
-command_again (commands.Print a) rest h = rw (name_line_again rest a h) refl
-command_again (commands.CutFront a n) rest h = rw (name_number_again 0 (2 ^ 64 - 1) rest a n h) refl
-command_again (commands.CutBack a n) rest h = rw (name_number_again 0 (2 ^ 64 - 1) rest a n h) refl
-command_again (commands.At a n) rest h = rw (name_number_again 0 (2 ^ 64 - 1) rest a n h) refl
-command_again (commands.SetSum a n) rest h = rw (name_number_again 0 (2 ^ 32 - 1) rest a n h) refl
-command_again (commands.Put a n) rest h = rw (name_number_again 0 63 rest a n h) refl
-command_again (commands.Swap a n) rest h = rw (name_number_again 0 63 rest a n h) refl
-command_again (commands.Take n a) rest h = rw (number_name_again 0 63 rest n a h) refl
-command_again (commands.Peek n a) rest h = rw (number_name_again 0 63 rest n a h) refl
-command_again (commands.Sub a pos n b) rest h = rw (sub_again rest a pos n b h) refl
-command_again commands.Snap rest h = rw h refl
-command_again commands.Walk rest h = rw h refl
-command_again commands.Unsnap rest h = rw h refl
+form_again : (form : Form) (rest : Option (List ℕ)) → SaysForm rest form → command_at (verb_in form) rest ≡ Ok (command_of form)
+unfolding command_at
+form_again (OfName v a) rest h = rw (name_line_again rest a h) refl
+form_again (OfNameText v a t) rest h = rw (name_text_again (least_of v) rest a t h) refl
+form_again (OfNameNumber v a n) rest h = rw (name_number_again 0 (most_of v) rest a n h) refl
+form_again (OfNameCell v a cell) rest h = rw (name_number_again 0 63 rest a cell h) refl
+form_again (OfCellName v cell a) rest h = rw (number_name_again 0 63 rest cell a h) refl
+form_again (OfTwoNames v a b) rest h = rw (two_names_again rest a b h) refl
+form_again (OfSub a pos n b) rest h = rw (sub_again rest a pos n b h) refl
 
-setting_again : (setting : Setting) (rest : Option (List ℕ)) → SaysSetting rest setting → item_at (setting_verb setting) rest ≡ Ok (items.Set setting)
+setting_again : (setting : Setting) (rest : Option (List ℕ)) → SaysSetting rest setting → item_at (verbs.Set (setting_verb setting)) rest ≡ Ok (items.Set setting)
 unfolding item_at
 setting_again (settings.Pool n) rest h = rw (number_line_again 1 262144 rest n h) refl
 setting_again (settings.Passes n) rest h = rw (number_line_again 1 262144 rest n h) refl
@@ -350,7 +289,7 @@ pub item_again : (item : Item) (rest : Option (List ℕ)) → Says rest item →
 unfolding item_at
 item_again (items.Set setting) rest h = setting_again setting rest h
 item_again (items.Begin name) rest h = rw (name_line_again rest name h) refl
-item_again (items.Do command) rest h = command_again command rest h
+item_again (items.Do command) rest h = ap (λ (r : Result Command Cause). let x : Result Item Cause = r >>= λ c. Ok (items.Do c) in x) (form_again (form_of command) rest h ∙ ap Ok (command_of_form command))
 item_again items.End rest h = rw h refl
 
 -- ---- what is spelled has no other bytes
@@ -362,49 +301,24 @@ RestShown (Some rest) = list_all is_shown rest ≡ true
 some_shown : (rest : Option (List ℕ)) (l : List ℕ) → rest ≡ Some l → list_all is_shown l ≡ true → RestShown rest
 some_shown rest l e h = subst RestShown (sym e) h
 
-command_shown : (command : Command) (rest : Option (List ℕ)) → SaysCommand rest command → RestShown rest
-command_shown (commands.Let a t) rest h = some_shown rest _ h.1 (joined_shown a h.0 (name_shown a h.2) (text_shown 0 h.0 t h.3))
-command_shown (commands.Ext a t) rest h = some_shown rest _ h.1 (joined_shown a h.0 (name_shown a h.2) (text_shown 16 h.0 t h.3))
-command_shown (commands.Append a t) rest h = some_shown rest _ h.1 (joined_shown a h.0 (name_shown a h.2) (text_shown 0 h.0 t h.3))
-command_shown (commands.Prepend a t) rest h = some_shown rest _ h.1 (joined_shown a h.0 (name_shown a h.2) (text_shown 0 h.0 t h.3))
-command_shown (commands.Find a t) rest h = some_shown rest _ h.1 (joined_shown a h.0 (name_shown a h.2) (text_shown 0 h.0 t h.3))
-command_shown (commands.Starts a t) rest h = some_shown rest _ h.1 (joined_shown a h.0 (name_shown a h.2) (text_shown 0 h.0 t h.3))
-command_shown (commands.Ends a t) rest h = some_shown rest _ h.1 (joined_shown a h.0 (name_shown a h.2) (text_shown 0 h.0 t h.3))
-command_shown (commands.Copy a b) rest h = some_shown rest _ h.0 (joined_shown a b (name_shown a h.1) (name_shown b h.2))
-command_shown (commands.Join a b) rest h = some_shown rest _ h.0 (joined_shown a b (name_shown a h.1) (name_shown b h.2))
-command_shown (commands.JoinFront a b) rest h = some_shown rest _ h.0 (joined_shown a b (name_shown a h.1) (name_shown b h.2))
-command_shown (commands.Compare a b) rest h = some_shown rest _ h.0 (joined_shown a b (name_shown a h.1) (name_shown b h.2))
-command_shown (commands.Clear a) rest h = some_shown rest a h.0 (name_shown a h.1)
-command_shown (commands.Sum a) rest h = some_shown rest a h.0 (name_shown a h.1)
-command_shown (commands.Size a) rest h = some_shown rest a h.0 (name_shown a h.1)
-command_shown (commands.Print a) rest h = some_shown rest a h.0 (name_shown a h.1)
-command_shown (commands.CutFront a n) rest h = some_shown rest _ h.1 (joined_shown a h.0 (name_shown a h.2) (number_shown h.0 n h.3))
-command_shown (commands.CutBack a n) rest h = some_shown rest _ h.1 (joined_shown a h.0 (name_shown a h.2) (number_shown h.0 n h.3))
-command_shown (commands.At a n) rest h = some_shown rest _ h.1 (joined_shown a h.0 (name_shown a h.2) (number_shown h.0 n h.3))
-command_shown (commands.SetSum a n) rest h = some_shown rest _ h.1 (joined_shown a h.0 (name_shown a h.2) (number_shown h.0 n h.3))
-command_shown (commands.Put a n) rest h = some_shown rest _ h.1 (joined_shown a h.0 (name_shown a h.2) (number_shown h.0 n h.3))
-command_shown (commands.Swap a n) rest h = some_shown rest _ h.1 (joined_shown a h.0 (name_shown a h.2) (number_shown h.0 n h.3))
-command_shown (commands.Take n a) rest h = some_shown rest _ h.1 (joined_shown h.0 a (number_shown h.0 n h.3) (name_shown a h.2))
-command_shown (commands.Peek n a) rest h = some_shown rest _ h.1 (joined_shown h.0 a (number_shown h.0 n h.3) (name_shown a h.2))
-command_shown (commands.Sub a pos n b) rest h = some_shown rest _ h.2 (joined_shown a _ (name_shown a h.3) (joined_shown h.0 _ (number_shown h.0 pos h.5) (joined_shown h.1 b (number_shown h.1 n h.6) (name_shown b h.4))))
-command_shown commands.Snap rest h = subst RestShown (sym h) tt
-command_shown commands.Walk rest h = subst RestShown (sym h) tt
-command_shown commands.Unsnap rest h = subst RestShown (sym h) tt
-
-setting_shown : (setting : Setting) (rest : Option (List ℕ)) → SaysSetting rest setting → RestShown rest
-setting_shown (settings.Pool n) rest h = some_shown rest h.0 h.1 (number_shown h.0 n h.2)
-setting_shown (settings.Passes n) rest h = some_shown rest h.0 h.1 (number_shown h.0 n h.2)
-setting_shown (settings.Stride n) rest h = some_shown rest h.0 h.1 (number_shown h.0 n h.2)
+form_shown : (form : Form) (rest : Option (List ℕ)) → SaysForm rest form → RestShown rest
+form_shown (OfName v a) rest h = some_shown rest a h.0 (name_shown a h.1)
+form_shown (OfNameText v a t) rest h = some_shown rest _ h.1 (joined_shown a h.0 (name_shown a h.2) (text_shown (least_of v) h.0 t h.3))
+form_shown (OfNameNumber v a n) rest h = some_shown rest _ h.1 (joined_shown a h.0 (name_shown a h.2) (number_shown h.0 n h.3))
+form_shown (OfNameCell v a cell) rest h = some_shown rest _ h.1 (joined_shown a h.0 (name_shown a h.2) (number_shown h.0 cell h.3))
+form_shown (OfCellName v cell a) rest h = some_shown rest _ h.1 (joined_shown h.0 a (number_shown h.0 cell h.3) (name_shown a h.2))
+form_shown (OfTwoNames v a b) rest h = some_shown rest _ h.0 (joined_shown a b (name_shown a h.1) (name_shown b h.2))
+form_shown (OfSub a pos n b) rest h = some_shown rest _ h.2 (joined_shown a _ (name_shown a h.3) (joined_shown h.0 _ (number_shown h.0 pos h.5) (joined_shown h.1 b (number_shown h.1 n h.6) (name_shown b h.4))))
 
 item_shown : (item : Item) (rest : Option (List ℕ)) → Says rest item → RestShown rest
-item_shown (items.Set setting) rest h = setting_shown setting rest h
+item_shown (items.Set setting) rest h = some_shown rest h.0 h.1 (number_shown h.0 (setting_number setting) h.2)
 item_shown (items.Begin name) rest h = some_shown rest name h.0 (name_shown name h.1)
-item_shown (items.Do command) rest h = command_shown command rest h
+item_shown (items.Do command) rest h = form_shown (form_of command) rest h
 item_shown items.End rest h = subst RestShown (sym h) tt
 
-line_shown : (v : Verb) (rest : Option (List ℕ)) → RestShown rest → list_all is_shown (joined (word_of v) rest) ≡ true
-line_shown v None h = all_weaker is_name_byte is_shown name_byte_shown (word_of v) (letters v)
-line_shown v (Some rest) h = joined_shown (word_of v) rest (all_weaker is_name_byte is_shown name_byte_shown (word_of v) (letters v)) h
+line_shown : (word : List ℕ) (rest : Option (List ℕ)) → is_word word ≡ true → RestShown rest → list_all is_shown (joined word rest) ≡ true
+line_shown word None is h = all_weaker is_name_byte is_shown name_byte_shown word (word_bytes word is)
+line_shown word (Some rest) is h = joined_shown word rest (all_weaker is_name_byte is_shown name_byte_shown word (word_bytes word is)) h
 
 pub spelled_verb : (line : List ℕ) (item : Item) (h : SpellsItem line item) → verb_at line ≡ Ok (verb_for item, h.rest)
-spelled_verb line item h = ap verb_at h.words ∙ verb_again (verb_for item) h.rest (line_shown (verb_for item) h.rest (item_shown item h.rest h.says))
+spelled_verb line item h = ap verb_at h.words ∙ verb_again h.word (verb_for item) h.rest h.built (line_shown h.word h.rest (built_word h.word (verb_for item) h.built) (item_shown item h.rest h.says))

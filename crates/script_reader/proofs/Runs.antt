@@ -12,20 +12,17 @@ use Rattle.script_words.specs.declared.fault.Cause.{Cause}
 use Rattle.script_words.specs.declared.fault.Cause.TheVariants as causes
 use Rattle.script_words.specs.Reading.{◌>>=◌}
 use Rattle.plain_cord.specs.declared.script.Command.{Command}
-use Rattle.plain_cord.specs.declared.script.Command.TheVariants as commands
 use Rattle.plain_cord.specs.declared.script.Session.{Session}
 use Rattle.plain_cord.specs.declared.script.Script.{Script}
-use Rattle.script_reader.specs.declared.verbs.Verb.TheVariants as verbs
-use Rattle.script_reader.specs.declared.progress.Setting.{Setting}
-use Rattle.script_reader.specs.declared.progress.Setting.TheVariants as settings
+use Rattle.script_words.specs.declared.verbs.Setting.{Setting}
+use Rattle.script_words.specs.declared.verbs.Setting.TheVariants as settings
 use Rattle.script_reader.specs.declared.progress.Settings.{Settings}
 use Rattle.script_reader.specs.declared.progress.Item.{Item}
 use Rattle.script_reader.specs.declared.progress.Item.TheVariants as items
 use Rattle.script_reader.specs.declared.progress.Progress.{Progress}
-use Rattle.script_reader.specs.Built.{is_ready}
 use Rattle.script_reader.specs.Scripts.{is_fresh, is_placed, is_called, chosen, entered, script_from, lines_from, start, headed, read_of}
-use Rattle.script_reader.specs.Spelling.{setting_verb, command_verb, verb_for}
-use Rattle.script_reader.specs.ScriptSpelling.{session_items, script_items, NoneIsCalled, NamesDiffer, commands_in, is_ready_item, Spells}
+use Rattle.script_reader.specs.Spelling.{verb_for}
+use Rattle.script_reader.specs.ScriptSpelling.{session_items, script_items, NoneIsCalled, NamesDiffer, commands_in, Spells}
 use Rattle.script_reader.specs.Faults.{accepted, run}
 use Rattle.script_reader.proofs.ScriptLines.{lines_again, script_lines_again}
 use Rattle.script_reader.proofs.SettingLaws.{Goes, chosen_goes, goes_nowhere, NumbersAre, numbers_end}
@@ -45,102 +42,59 @@ run_append p (x ∷ xs) ys =
       | Err c ↦ refl
     ]
 
--- ---- where an item may stand
-
-pub setting_placed : (p : Progress) (s : Setting) → is_placed p (setting_verb s) ≡ is_fresh p
-setting_placed p (settings.Pool n) = refl
-setting_placed p (settings.Passes n) = refl
-setting_placed p (settings.Stride n) = refl
-
-command_placed : (p : Progress) (c : Command) → is_placed p (command_verb c) ≡ is_some p.current
-command_placed p (commands.Let a text) = refl
-command_placed p (commands.Ext a text) = refl
-command_placed p (commands.Append a text) = refl
-command_placed p (commands.Prepend a text) = refl
-command_placed p (commands.Find a text) = refl
-command_placed p (commands.Starts a text) = refl
-command_placed p (commands.Ends a text) = refl
-command_placed p (commands.Copy a b) = refl
-command_placed p (commands.Join a b) = refl
-command_placed p (commands.JoinFront a b) = refl
-command_placed p (commands.Compare a b) = refl
-command_placed p (commands.Clear a) = refl
-command_placed p (commands.Sum a) = refl
-command_placed p (commands.Size a) = refl
-command_placed p (commands.Print a) = refl
-command_placed p (commands.CutFront a n) = refl
-command_placed p (commands.CutBack a n) = refl
-command_placed p (commands.At a n) = refl
-command_placed p (commands.SetSum a n) = refl
-command_placed p (commands.Put a n) = refl
-command_placed p (commands.Swap a n) = refl
-command_placed p (commands.Take n a) = refl
-command_placed p (commands.Peek n a) = refl
-command_placed p (commands.Sub a pos n b) = refl
-command_placed p commands.Snap = refl
-command_placed p commands.Walk = refl
-command_placed p commands.Unsnap = refl
-
-accepts : (p : Progress) (item : Item) (r : Result Progress Cause) → is_ready (verb_for item) ≡ true → is_placed p (verb_for item) ≡ true → entered p item ≡ r → accepted p item ≡ r
-accepts p item r ready placed e =
-    ap (λ (t : Bool). cond t (cond (is_placed p (verb_for item)) (entered p item) (Err causes.Misplaced)) (Err causes.Unbuilt)) ready
-    ∙ ap (λ (t : Bool). cond t (entered p item) (Err causes.Misplaced)) placed ∙ e
-
 -- ---- options
 
-one_setting : (g next : Settings) (s : Setting) → is_ready (setting_verb s) ≡ true → chosen g s ≡ Ok next → accepted (between g [] 0) (items.Set s) ≡ Ok (between next [] 0)
+accepts : (p : Progress) (item : Item) (r : Result Progress Cause) → is_placed p (verb_for item) ≡ true → entered p item ≡ r → accepted p item ≡ r
+accepts p item r placed e = ap (λ (t : Bool). cond t (entered p item) (Err causes.Misplaced)) placed ∙ e
+
+one_setting : (g next : Settings) (s : Setting) → chosen g s ≡ Ok next → accepted (between g [] 0) (items.Set s) ≡ Ok (between next [] 0)
 unfolding entered
-one_setting g next s ready e =
-    accepts (between g [] 0) (items.Set s) (Ok (between next [] 0)) ready (setting_placed (between g [] 0) s)
+one_setting g next s e =
+    accepts (between g [] 0) (items.Set s) (Ok (between next [] 0)) refl
     (ap (λ (r : Result Settings Cause). let x : Result Progress Cause = r >>= λ h. Ok (between h [] 0) in x) e)
 
-settings_run : (ss : List Setting) (g end : Settings) → Goes g ss end → list_all is_ready_item (map items.Set ss) ≡ true → run (between g [] 0) (map items.Set ss) ≡ Ok (between end [] 0)
-settings_run [] g end h ready = ap (λ (x : Settings). Ok (between x [] 0)) (goes_nowhere g end h)
-settings_run (s ∷ ss) g end h ready =
+settings_run : (ss : List Setting) (g end : Settings) → Goes g ss end → run (between g [] 0) (map items.Set ss) ≡ Ok (between end [] 0)
+settings_run [] g end h = ap (λ (x : Settings). Ok (between x [] 0)) (goes_nowhere g end h)
+settings_run (s ∷ ss) g end h =
     let c = chosen_goes g s ss end h in
-    let a = and_parts (is_ready_item (items.Set s)) (list_all is_ready_item (map items.Set ss)) ready in
-    ap (λ (x : Result Progress Cause). x >>= λ q. run q (map items.Set ss)) (one_setting g c.0 s a.0 c.1) ∙ settings_run ss c.0 end c.2 a.1
+    ap (λ (x : Result Progress Cause). x >>= λ q. run q (map items.Set ss)) (one_setting g c.0 s c.1) ∙ settings_run ss c.0 end c.2
 
 -- ---- sessions
 
-one_command : (g : Settings) (done : List Session) (name : List ℕ) (said : List Command) (n : ℕ) (c : Command) → is_ready (command_verb c) ≡ true → n < 16384
+one_command : (g : Settings) (done : List Session) (name : List ℕ) (said : List Command) (n : ℕ) (c : Command) → n < 16384
     → accepted (inside g done name said n) (items.Do c) ≡ Ok (inside g done name (said ++ c ∷ []) (n + 1))
 unfolding entered
-one_command g done name said n c ready lt =
-    accepts (inside g done name said n) (items.Do c) (Ok (inside g done name (said ++ c ∷ []) (n + 1))) ready (command_placed (inside g done name said n) c)
+one_command g done name said n c lt =
+    accepts (inside g done name said n) (items.Do c) (Ok (inside g done name (said ++ c ∷ []) (n + 1))) refl
     (ap (λ (t : Bool). let x : Result Progress Cause = cond t (Ok (inside g done name (said ++ c ∷ []) (n + 1))) (Err causes.Many) in x) (lt-ltb n 16384 lt))
 
-commands_run : (cs : List Command) (g : Settings) (done : List Session) (name : List ℕ) (said : List Command) (n : ℕ) → list_all is_ready_item (map items.Do cs) ≡ true → n + length cs ≤ 16384
+commands_run : (cs : List Command) (g : Settings) (done : List Session) (name : List ℕ) (said : List Command) (n : ℕ) → n + length cs ≤ 16384
     → run (inside g done name said n) (map items.Do cs) ≡ Ok (inside g done name (said ++ cs) (n + length cs))
-commands_run [] g done name said n ready le = ap (λ (l : List Command). Ok (inside g done name l n)) (sym (append-nil said)) ∙ ap (λ (k : ℕ). Ok (inside g done name (said ++ []) k)) (let e : n ≡ n + 0 = omega arith in e)
-commands_run (c ∷ cs) g done name said n ready le =
-    let a = and_parts (is_ready_item (items.Do c)) (list_all is_ready_item (map items.Do cs)) ready in
-    ap (λ (x : Result Progress Cause). x >>= λ q. run q (map items.Do cs)) (one_command g done name said n c a.0 (omega arith))
-    ∙ commands_run cs g done name (said ++ c ∷ []) (n + 1) a.1 (omega arith)
+commands_run [] g done name said n le = ap (λ (l : List Command). Ok (inside g done name l n)) (sym (append-nil said)) ∙ ap (λ (k : ℕ). Ok (inside g done name (said ++ []) k)) (let e : n ≡ n + 0 = omega arith in e)
+commands_run (c ∷ cs) g done name said n le =
+    ap (λ (x : Result Progress Cause). x >>= λ q. run q (map items.Do cs)) (one_command g done name said n c (omega arith))
+    ∙ commands_run cs g done name (said ++ c ∷ []) (n + 1) (omega arith)
     ∙ ap (λ (l : List Command). Ok (inside g done name l (n + 1 + length cs))) (append_assoc said (c ∷ []) cs)
     ∙ ap (λ (k : ℕ). Ok (inside g done name (said ++ c ∷ cs) k)) (let e : n + 1 + length cs ≡ n + suc (length cs) = omega arith in e)
 
-begins : (g : Settings) (done : List Session) (n : ℕ) (name : List ℕ) → is_ready verbs.Session ≡ true → list_any (is_called name) done ≡ false → length done < 16
+begins : (g : Settings) (done : List Session) (n : ℕ) (name : List ℕ) → list_any (is_called name) done ≡ false → length done < 16
     → accepted (between g done n) (items.Begin name) ≡ Ok (inside g done name [] n)
 unfolding entered
-begins g done n name ready fresh lt = accepts (between g done n) (items.Begin name) (Ok (inside g done name [] n)) ready refl (rw (fresh, lt-ltb (length done) 16 lt) refl)
+begins g done n name fresh lt = accepts (between g done n) (items.Begin name) (Ok (inside g done name [] n)) refl (rw (fresh, lt-ltb (length done) 16 lt) refl)
 
-closes : (g : Settings) (done : List Session) (name : List ℕ) (said : List Command) (n : ℕ) → is_ready verbs.End ≡ true
+closes : (g : Settings) (done : List Session) (name : List ℕ) (said : List Command) (n : ℕ)
     → run (inside g done name said n) (items.End ∷ []) ≡ Ok (between g (done ++ record { name = name; commands = said } ∷ []) n)
 unfolding entered
-closes g done name said n ready =
-    ap (λ (x : Result Progress Cause). x >>= λ q. run q []) (accepts (inside g done name said n) items.End (Ok (between g (done ++ record { name = name; commands = said } ∷ []) n)) ready refl refl)
+closes g done name said n =
+    ap (λ (x : Result Progress Cause). x >>= λ q. run q []) (accepts (inside g done name said n) items.End (Ok (between g (done ++ record { name = name; commands = said } ∷ []) n)) refl refl)
 
-session_run : (s : Session) (g : Settings) (done : List Session) (n : ℕ) → list_all is_ready_item (session_items s) ≡ true → list_any (is_called s.name) done ≡ false → length done < 16
+session_run : (s : Session) (g : Settings) (done : List Session) (n : ℕ) → list_any (is_called s.name) done ≡ false → length done < 16
     → n + length s.commands ≤ 16384 → run (between g done n) (session_items s) ≡ Ok (between g (done ++ s ∷ []) (n + length s.commands))
-session_run s g done n ready fresh few short =
-    let a = and_parts (is_ready verbs.Session) (list_all is_ready_item (map items.Do s.commands ++ items.End ∷ [])) ready in
-    let b = and_parts (list_all is_ready_item (map items.Do s.commands)) (is_ready verbs.End && true) (sym (list_all-append is_ready_item (map items.Do s.commands) (items.End ∷ [])) ∙ a.1) in
-    let last = and_parts (is_ready verbs.End) true b.1 in
-    ap (λ (x : Result Progress Cause). x >>= λ q. run q (map items.Do s.commands ++ items.End ∷ [])) (begins g done n s.name a.0 fresh few)
+session_run s g done n fresh few short =
+    ap (λ (x : Result Progress Cause). x >>= λ q. run q (map items.Do s.commands ++ items.End ∷ [])) (begins g done n s.name fresh few)
     ∙ run_append (inside g done s.name [] n) (map items.Do s.commands) (items.End ∷ [])
-    ∙ ap (λ (x : Result Progress Cause). x >>= λ q. run q (items.End ∷ [])) (commands_run s.commands g done s.name [] n b.0 short)
-    ∙ closes g done s.name s.commands (n + length s.commands) last.0
+    ∙ ap (λ (x : Result Progress Cause). x >>= λ q. run q (items.End ∷ [])) (commands_run s.commands g done s.name [] n short)
+    ∙ closes g done s.name s.commands (n + length s.commands)
 
 differ_same : (x y : List ℕ) → x ≢ y → bytes_eq x y ≡ false
 differ_same x y other = false_from_ne_true (bytes_eq x y) (λ t. other ((bytes_eq-Decides x y).0 t))
@@ -153,17 +107,14 @@ fresh_from : (done : List Session) (s : Session) (ss : List Session) → NamesDi
 fresh_from [] s ss h = refl
 fresh_from (d ∷ ds) s ss h = or_from (is_called s.name d) (list_any (is_called s.name) ds) (differ_same d.name s.name (λ e. none_called d.name ds s ss h.0 (sym e))) (fresh_from ds s ss h.1)
 
-sessions_run : (ss : List Session) (g : Settings) (done : List Session) (n : ℕ) → list_all is_ready_item (flat_map session_items ss) ≡ true
-    → NamesDiffer (done ++ ss) → length done + length ss ≤ 16 → n + commands_in ss ≤ 16384
+sessions_run : (ss : List Session) (g : Settings) (done : List Session) (n : ℕ) → NamesDiffer (done ++ ss) → length done + length ss ≤ 16 → n + commands_in ss ≤ 16384
     → run (between g done n) (flat_map session_items ss) ≡ Ok (between g (done ++ ss) (n + commands_in ss))
-sessions_run [] g done n ready differ few short = ap (λ (l : List Session). Ok (between g l n)) (sym (append-nil done)) ∙ ap (λ (k : ℕ). Ok (between g (done ++ []) k)) (let e : n ≡ n + 0 = omega arith in e)
-sessions_run (s ∷ ss) g done n ready differ few short =
-    let both : list_all is_ready_item (session_items s ++ flat_map session_items ss) ≡ true = ap (list_all is_ready_item) (sym (flat_map-cons session_items s ss)) ∙ ready in
-    let a = and_parts (list_all is_ready_item (session_items s)) (list_all is_ready_item (flat_map session_items ss)) (sym (list_all-append is_ready_item (session_items s) (flat_map session_items ss)) ∙ both) in
+sessions_run [] g done n differ few short = ap (λ (l : List Session). Ok (between g l n)) (sym (append-nil done)) ∙ ap (λ (k : ℕ). Ok (between g (done ++ []) k)) (let e : n ≡ n + 0 = omega arith in e)
+sessions_run (s ∷ ss) g done n differ few short =
     ap (run (between g done n)) (flat_map-cons session_items s ss)
     ∙ run_append (between g done n) (session_items s) (flat_map session_items ss)
-    ∙ ap (λ (x : Result Progress Cause). x >>= λ q. run q (flat_map session_items ss)) (session_run s g done n a.0 (fresh_from done s ss differ) (omega arith) (omega arith))
-    ∙ sessions_run ss g (done ++ s ∷ []) (n + length s.commands) a.1 (subst NamesDiffer (sym (append_assoc done (s ∷ []) ss)) differ) (omega (arith, length-append done (s ∷ []))) (omega arith)
+    ∙ ap (λ (x : Result Progress Cause). x >>= λ q. run q (flat_map session_items ss)) (session_run s g done n (fresh_from done s ss differ) (omega arith) (omega arith))
+    ∙ sessions_run ss g (done ++ s ∷ []) (n + length s.commands) (subst NamesDiffer (sym (append_assoc done (s ∷ []) ss)) differ) (omega (arith, length-append done (s ∷ []))) (omega arith)
     ∙ ap (λ (l : List Session). Ok (between g l (n + length s.commands + commands_in ss))) (append_assoc done (s ∷ []) ss)
     ∙ ap (λ (k : ℕ). Ok (between g (done ++ s ∷ ss) k)) (let e : n + length s.commands + commands_in ss ≡ n + (length s.commands + commands_in ss) = omega arith in e)
 
@@ -182,11 +133,10 @@ same_script g n s h =
 pub spelled_is_read : (bytes : List ℕ) (s : Script) → Spells bytes s → read_of bytes ≡ Ok s
 spelled_is_read bytes s h =
     let e = numbers_end h.options s h.given in
-    let w = and_parts (list_all is_ready_item (map items.Set h.options)) (list_all is_ready_item (flat_map session_items s.sessions)) (sym (list_all-append is_ready_item (map items.Set h.options) (flat_map session_items s.sessions)) ∙ h.built) in
     let ran : run start (script_items h.options s.sessions) ≡ Ok (between e.0 s.sessions (0 + commands_in s.sessions)) =
     run_append start (map items.Set h.options) (flat_map session_items s.sessions)
-    ∙ ap (λ (x : Result Progress Cause). x >>= λ q. run q (flat_map session_items s.sessions)) (settings_run h.options (start.settings) e.0 e.1 w.0)
-    ∙ sessions_run s.sessions e.0 [] 0 w.1 h.differ (omega (arith, h.few)) (omega (arith, h.short)) in
+    ∙ ap (λ (x : Result Progress Cause). x >>= λ q. run q (flat_map session_items s.sessions)) (settings_run h.options (start.settings) e.0 e.1)
+    ∙ sessions_run s.sessions e.0 [] 0 h.differ (omega (arith, h.few)) (omega (arith, h.short)) in
     ap headed (lines_again bytes (codes "cords 1" ∷ h.lines) h.written) ∙ headed_again h.lines
     ∙ script_lines_again 2 start h.lines (script_items h.options s.sessions) (between e.0 s.sessions (0 + commands_in s.sessions)) h.spelled ran refl
     ∙ ap (λ (t : Script). Ok t) (same_script e.0 (0 + commands_in s.sessions) s e.2)

@@ -1,20 +1,23 @@
 -- The lines of a script, both ways.
-use Rattle.std.proofs.Common.{◌≡◌, ◌≢◌, ℕ, ◌+◌, Bool, true, false, cond, eqb, List, [], ◌∷◌, ◌++◌, Option, Some, None, Result, Ok, Err, refl, sym, ap, ◌∙◌, inl, inr}
-use Rattle.std.specs.Prelude.{◌⊎◌}
-use Rattle.std.proofs.lemmas.Bool.{eqb-true, eqb-false, ne_eqb, cond_both}
+use Rattle.std.proofs.Common.{◌≡◌, ◌≢◌, ℕ, ◌+◌, Bool, true, false, cond, eqb, List, [], ◌∷◌, ◌++◌, Option, Some, None, Result, Ok, Err, refl, sym, ap, ◌∙◌, inl, inr, ◌≤◌, arith}
+use Rattle.std.specs.Prelude.{◌⊎◌, nat_le}
+use Rattle.std.specs.List.{list_all}
+use Rattle.std.proofs.lemmas.Bool.{eqb-true, eqb-false, ne_eqb, cond_both, and_parts}
+use Rattle.std.proofs.lemmas.Bool.Decides.{nat_tests}
+use Rattle.script_words.specs.Words.{is_letter, is_name_byte}
+use Rattle.script_words.proofs.TableLaws.{is_word, built_word}
 use Rattle.script_words.specs.declared.fault.Cause.{Cause}
 use Rattle.script_words.specs.declared.fault.Cause.TheVariants as causes
 use Rattle.script_reader.specs.declared.fault.ScriptError.{ScriptError}
-use Rattle.script_reader.specs.declared.verbs.Verb.{Verb}
-use Rattle.script_reader.specs.declared.verbs.Verb.TheVariants as verbs
+use Rattle.script_words.specs.declared.verbs.Verb.{Verb}
+use Rattle.script_words.specs.declared.verbs.FirstWord.TheVariants as firsts
 use Rattle.script_reader.specs.declared.progress.Item.{Item}
 use Rattle.plain_cord.specs.declared.script.Session.{Session}
 use Rattle.plain_cord.specs.declared.script.Script.{Script}
 use Rattle.script_reader.specs.declared.progress.Progress.{Progress}
 use Rattle.script_words.specs.Reading.{◌>>=◌}
-use Rattle.script_reader.specs.Lines.{word_of, verb_at, item_at}
+use Rattle.script_reader.specs.Lines.{verb_at, item_at}
 use Rattle.script_reader.specs.Scripts.{onto, lines_of, is_ignored, is_placed, entered, said, step, located, script_from, script_of, lines_from}
-use Rattle.script_reader.specs.Built.{is_ready}
 use Rattle.script_words.specs.Spelling.{joined}
 use Rattle.script_reader.specs.Spelling.{verb_for, SpellsItem}
 use Rattle.script_reader.specs.ScriptSpelling.{HasNoNewline, IsWritten, SpellsLines}
@@ -73,87 +76,29 @@ lines_again bytes (l ∷ ls) h = either l h.0 (λ after k. lines_again after ls 
 said_found : (p : Progress) (line : List ℕ) (q : Progress) → said p line ≡ Ok q → (item : Item) × SpellsItem line item × (accepted p item ≡ Ok q)
 unfolding said
 said_found p line q e =
-    let a = bind_ok (verb_at line) (λ verb. cond (is_ready verb.0) (cond (is_placed p verb.0) (item_at verb.0 verb.1 >>= λ item. entered p item) (Err causes.Misplaced)) (Err causes.Unbuilt)) q e in
-    let d = if_ok (is_ready a.0.0) causes.Unbuilt (cond (is_placed p a.0.0) (item_at a.0.0 a.0.1 >>= λ item. entered p item) (Err causes.Misplaced)) q a.2 in
-    let b = if_ok (is_placed p a.0.0) causes.Misplaced (item_at a.0.0 a.0.1 >>= λ item. entered p item) q d.1 in
+    let a = bind_ok (verb_at line) (λ verb. cond (is_placed p verb.0) (item_at verb.0 verb.1 >>= λ item. entered p item) (Err causes.Misplaced)) q e in
+    let b = if_ok (is_placed p a.0.0) causes.Misplaced (item_at a.0.0 a.0.1 >>= λ item. entered p item) q a.2 in
     let c = bind_ok (item_at a.0.0 a.0.1) (λ item. entered p item) q b.1 in
     let f = item_found a.0.0 a.0.1 c.0 c.1 in
-    let may : Verb → Result Progress Cause = λ v. cond (is_ready v) (cond (is_placed p v) (entered p c.0) (Err causes.Misplaced)) (Err causes.Unbuilt) in (
+    let v = verb_found line a.0 a.1 in
+    let may : Verb → Result Progress Cause = λ v. cond (is_placed p v) (entered p c.0) (Err causes.Misplaced) in (
       c.0,
-      record { rest = a.0.1; words = verb_found line a.0 a.1 ∙ ap (λ (v : Verb). joined (word_of v) a.0.1) (sym f.0); says = f.1 },
-      ap may f.0 ∙ ap (λ (t : Bool). cond t (cond (is_placed p a.0.0) (entered p c.0) (Err causes.Misplaced)) (Err causes.Unbuilt)) d.0 ∙ ap (λ (t : Bool). cond t (entered p c.0) (Err causes.Misplaced)) b.0 ∙ c.2,
+      record { word = v.word; rest = a.0.1; words = v.words; built = v.built ∙ ap firsts.Built (sym f.0); says = f.1 },
+      ap may f.0 ∙ ap (λ (t : Bool). cond t (entered p c.0) (Err causes.Misplaced)) b.0 ∙ c.2,
     )
 
 said_again : (p : Progress) (line : List ℕ) (item : Item) → SpellsItem line item → said p line ≡ accepted p item
 unfolding said
 said_again p line item h = rw (spelled_verb line item h, item_again item h.rest h.says) refl
 
--- a line that says something isn't ignored
-not_ignored : (v : Verb) (rest : Option (List ℕ)) → is_ignored (joined (word_of v) rest) ≡ false
-not_ignored verbs.Pool None = refl
-not_ignored verbs.Pool (Some r) = refl
-not_ignored verbs.Passes None = refl
-not_ignored verbs.Passes (Some r) = refl
-not_ignored verbs.Stride None = refl
-not_ignored verbs.Stride (Some r) = refl
-not_ignored verbs.Session None = refl
-not_ignored verbs.Session (Some r) = refl
-not_ignored verbs.End None = refl
-not_ignored verbs.End (Some r) = refl
-not_ignored verbs.Let None = refl
-not_ignored verbs.Let (Some r) = refl
-not_ignored verbs.Ext None = refl
-not_ignored verbs.Ext (Some r) = refl
-not_ignored verbs.Append None = refl
-not_ignored verbs.Append (Some r) = refl
-not_ignored verbs.Prepend None = refl
-not_ignored verbs.Prepend (Some r) = refl
-not_ignored verbs.Find None = refl
-not_ignored verbs.Find (Some r) = refl
-not_ignored verbs.Starts None = refl
-not_ignored verbs.Starts (Some r) = refl
-not_ignored verbs.Ends None = refl
-not_ignored verbs.Ends (Some r) = refl
-not_ignored verbs.Copy None = refl
-not_ignored verbs.Copy (Some r) = refl
-not_ignored verbs.Join None = refl
-not_ignored verbs.Join (Some r) = refl
-not_ignored verbs.JoinFront None = refl
-not_ignored verbs.JoinFront (Some r) = refl
-not_ignored verbs.Compare None = refl
-not_ignored verbs.Compare (Some r) = refl
-not_ignored verbs.Clear None = refl
-not_ignored verbs.Clear (Some r) = refl
-not_ignored verbs.Sum None = refl
-not_ignored verbs.Sum (Some r) = refl
-not_ignored verbs.Size None = refl
-not_ignored verbs.Size (Some r) = refl
-not_ignored verbs.Print None = refl
-not_ignored verbs.Print (Some r) = refl
-not_ignored verbs.CutFront None = refl
-not_ignored verbs.CutFront (Some r) = refl
-not_ignored verbs.CutBack None = refl
-not_ignored verbs.CutBack (Some r) = refl
-not_ignored verbs.At None = refl
-not_ignored verbs.At (Some r) = refl
-not_ignored verbs.SetSum None = refl
-not_ignored verbs.SetSum (Some r) = refl
-not_ignored verbs.Put None = refl
-not_ignored verbs.Put (Some r) = refl
-not_ignored verbs.Swap None = refl
-not_ignored verbs.Swap (Some r) = refl
-not_ignored verbs.Take None = refl
-not_ignored verbs.Take (Some r) = refl
-not_ignored verbs.Peek None = refl
-not_ignored verbs.Peek (Some r) = refl
-not_ignored verbs.Sub None = refl
-not_ignored verbs.Sub (Some r) = refl
-not_ignored verbs.Snap None = refl
-not_ignored verbs.Snap (Some r) = refl
-not_ignored verbs.Walk None = refl
-not_ignored verbs.Walk (Some r) = refl
-not_ignored verbs.Unsnap None = refl
-not_ignored verbs.Unsnap (Some r) = refl
+-- a line that begins with a letter isn't ignored
+letter_said : (c : ℕ) → is_letter c ≡ true → c ≢ 35
+letter_said c is same = let three = and_parts (nat_le 97 c) (nat_le c 122) is in let high : 97 ≤ c = grind (arith, nat_tests) in absurd (omega arith)
+
+not_ignored : (word : List ℕ) (rest : Option (List ℕ)) → is_word word ≡ true → is_ignored (joined word rest) ≡ false
+not_ignored [] rest is = absurd cc
+not_ignored (c ∷ cs) None is = ne_eqb c 35 (letter_said c (and_parts (is_letter c) (list_all is_name_byte (c ∷ cs)) is).0)
+not_ignored (c ∷ cs) (Some rest) is = ne_eqb c 35 (letter_said c (and_parts (is_letter c) (list_all is_name_byte (c ∷ cs)) is).0)
 
 pub record Ran (p : Progress) (lines : List (List ℕ)) (s : Script) : Type 0 where
   pub items : List Item
@@ -197,7 +142,7 @@ ignored_step p line h = rw h refl
 pub said_step : (p : Progress) (line : List ℕ) (item : Item) → SpellsItem line item → step p line ≡ accepted p item
 unfolding step
 said_step p line item h =
-    let quiet : is_ignored line ≡ false = ap is_ignored h.words ∙ not_ignored (verb_for item) h.rest in
+    let quiet : is_ignored line ≡ false = ap is_ignored h.words ∙ not_ignored h.word h.rest (built_word h.word (verb_for item) h.built) in
     rw quiet (said_again p line item h)
 
 pub script_lines_again : (n : ℕ) (p : Progress) (lines : List (List ℕ)) (items : List Item) (q : Progress) → SpellsLines lines items → run p items ≡ Ok q → q.current ≡ None → lines_from n p lines ≡ Ok (script_from q)

@@ -3,8 +3,8 @@ use Rattle.std.proofs.Common.{◌≡◌, ℕ, List, [], ◌∷◌, ◌++◌, Opt
 use Rattle.std.specs.Prelude.{unwrap_or}
 use Rattle.std.proofs.lemmas.List.{append-nil}
 use Rattle.plain_cord.specs.declared.script.Script.{Script}
-use Rattle.script_reader.specs.declared.progress.Setting.{Setting}
-use Rattle.script_reader.specs.declared.progress.Setting.TheVariants as settings
+use Rattle.script_words.specs.declared.verbs.Setting.{Setting}
+use Rattle.script_words.specs.declared.verbs.Setting.TheVariants as settings
 use Rattle.script_reader.specs.declared.progress.Settings.{Settings}
 use Rattle.script_reader.specs.Scripts.{once, chosen, no_settings}
 use Rattle.script_reader.specs.ScriptSpelling.{put, numbers, pool_number, passes_number, stride_number, IsGiven, AreGiven}

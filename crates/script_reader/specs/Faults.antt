@@ -7,14 +7,13 @@ use Rattle.script_words.specs.Reading.{◌>>=◌}
 use Rattle.script_reader.specs.declared.fault.ScriptError.{ScriptError}
 use Rattle.script_reader.specs.declared.progress.Item.{Item}
 use Rattle.script_reader.specs.declared.progress.Progress.{Progress}
-use Rattle.script_reader.specs.Built.{is_ready}
 use Rattle.script_reader.specs.Scripts.{is_placed, entered, step, start}
 use Rattle.script_reader.specs.Spelling.{verb_for}
 use Rattle.script_reader.specs.ScriptSpelling.{IsWritten, SpellsLines}
 
--- an item that is built, where it may stand
+-- an item, where it may stand
 abbrev pub accepted : Progress → Item → Result Progress Cause
-accepted p item = if is_ready (verb_for item) then (if is_placed p (verb_for item) then entered p item else Err causes.Misplaced) else Err causes.Unbuilt
+accepted p item = if is_placed p (verb_for item) then entered p item else Err causes.Misplaced
 
 abbrev pub run : Progress → List Item → Result Progress Cause
 run p [] = Ok p

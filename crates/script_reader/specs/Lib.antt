@@ -1,5 +1,4 @@
 pub mod Lines
-pub mod Built
 pub mod Scripts
 pub mod Spelling
 pub mod ScriptSpelling

@@ -1,16 +1,15 @@
 -- How a script is spelled, apart from any reading.
--- It takes from the reading side only which lines are ignored, and which words are built.
-use Rattle.std.specs.Prelude.{◌≡◌, ◌≢◌, ℕ, ◌+◌, ◌≤◌, ◌⊎◌, Bool, true, List, [], ◌∷◌, ◌++◌, length, map, Option, Some, None, codes}
-use Rattle.std.specs.List.{list_all, flat_map}
+-- It takes from the reading side only which lines are ignored.
+use Rattle.std.specs.Prelude.{◌≡◌, ◌≢◌, ℕ, ◌+◌, ◌≤◌, ◌⊎◌, true, List, [], ◌∷◌, ◌++◌, length, map, Option, Some, None, codes}
+use Rattle.std.specs.List.{flat_map}
 use Rattle.plain_cord.specs.declared.script.Session.{Session}
 use Rattle.plain_cord.specs.declared.script.Script.{Script}
-use Rattle.script_reader.specs.declared.progress.Setting.{Setting}
-use Rattle.script_reader.specs.declared.progress.Setting.TheVariants as settings
+use Rattle.script_words.specs.declared.verbs.Setting.{Setting}
+use Rattle.script_words.specs.declared.verbs.Setting.TheVariants as settings
 use Rattle.script_reader.specs.declared.progress.Item.{Item}
 use Rattle.script_reader.specs.declared.progress.Item.TheVariants as items
 use Rattle.script_reader.specs.Scripts.{is_ignored}
-use Rattle.script_reader.specs.Built.{is_ready}
-use Rattle.script_reader.specs.Spelling.{verb_for, SpellsItem}
+use Rattle.script_reader.specs.Spelling.{SpellsItem}
 
 -- ---- lines
 
@@ -89,10 +88,6 @@ commands_in (s ∷ ss) = length s.commands + commands_in ss
 
 -- ---- the whole
 
--- a word that is built
-abbrev pub is_ready_item : Item → Bool
-is_ready_item item = is_ready (verb_for item)
-
 pub record Spells (bytes : List ℕ) (script : Script) : Type 0 where
   pub lines : List (List ℕ)
   pub options : List Setting
@@ -102,4 +97,3 @@ pub record Spells (bytes : List ℕ) (script : Script) : Type 0 where
   pub differ : NamesDiffer script.sessions
   pub few : length script.sessions ≤ 16
   pub short : commands_in script.sessions ≤ 16384
-  pub built : list_all is_ready_item (script_items options script.sessions) ≡ true

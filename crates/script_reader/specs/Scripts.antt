@@ -9,16 +9,15 @@ use Rattle.plain_cord.specs.declared.script.Command.{Command}
 use Rattle.plain_cord.specs.declared.script.Session.{Session}
 use Rattle.plain_cord.specs.declared.script.Script.{Script}
 use Rattle.script_reader.specs.declared.fault.ScriptError.{ScriptError}
-use Rattle.script_reader.specs.declared.verbs.Verb.{Verb}
-use Rattle.script_reader.specs.declared.verbs.Verb.TheVariants as verbs
-use Rattle.script_reader.specs.declared.progress.Setting.{Setting}
-use Rattle.script_reader.specs.declared.progress.Setting.TheVariants as settings
+use Rattle.script_words.specs.declared.verbs.Verb.{Verb}
+use Rattle.script_words.specs.declared.verbs.Verb.TheVariants as verbs
+use Rattle.script_words.specs.declared.verbs.Setting.{Setting}
+use Rattle.script_words.specs.declared.verbs.Setting.TheVariants as settings
 use Rattle.script_reader.specs.declared.progress.Settings.{Settings}
 use Rattle.script_reader.specs.declared.progress.Item.{Item}
 use Rattle.script_reader.specs.declared.progress.Item.TheVariants as items
 use Rattle.script_reader.specs.declared.progress.Progress.{Progress}
 use Rattle.script_reader.specs.Lines.{verb_at, item_at}
-use Rattle.script_reader.specs.Built.{is_ready}
 
 -- The pieces between newlines. If the last is empty it is no line.
 abbrev pub onto : ℕ → List (List ℕ) → List (List ℕ)
@@ -40,11 +39,10 @@ is_fresh p = is_none p.current && length p.done == 0
 
 -- options stand before the first session, commands in one
 abbrev pub is_placed : Progress → Verb → Bool
-is_placed p verbs.Pool = is_fresh p
-is_placed p verbs.Passes = is_fresh p
-is_placed p verbs.Stride = is_fresh p
+is_placed p (verbs.Set verb) = is_fresh p
 is_placed p verbs.Session = is_none p.current
-is_placed p verb = is_some p.current
+is_placed p verbs.End = is_some p.current
+is_placed p (verbs.Do verb) = is_some p.current
 
 abbrev pub is_called : List ℕ → Session → Bool
 is_called name session = bytes_eq session.name name
@@ -84,9 +82,9 @@ entered p items.End = with_end p p.current
 unfoldable pub said : Progress → List ℕ → Result Progress Cause
 said p line = do
   verb ← verb_at line
-  if is_ready verb.0 then (if is_placed p verb.0 then (do
+  if is_placed p verb.0 then (do
     item ← item_at verb.0 verb.1
-    entered p item) else Err causes.Misplaced) else Err causes.Unbuilt
+    entered p item) else Err causes.Misplaced
 
 unfoldable pub step : Progress → List ℕ → Result Progress Cause
 step p line = if is_ignored line then Ok p else said p line

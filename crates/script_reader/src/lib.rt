@@ -1,7 +1,6 @@
 //! Reads scripts: the one that the bytes spell, or the first fault.
 #![tactic(auto)]
 
-mod built;
 mod fault;
 mod laws;
 mod lines;

@@ -5,18 +5,9 @@ ghost use Rattle.script_words.specs.Reading.{Gives};
 ghost use Rattle.script_reader.specs.declared.progress.Item.TheVariants as items;
 ghost use Rattle.script_reader.specs.Scripts.{is_fresh, is_placed, is_called, chosen, entered};
 
-use crate::verbs::Verb;
 use plain_cord::{Command, Items, Session};
-use script_words::{Cause, Refused};
+use script_words::{Cause, Refused, Setting, Verb};
 use std::alloc::Global;
-
-/// One of a script's options.
-#[derive(Clone, Copy, Debug, PartialEq, Eq)]
-pub enum Setting {
-    Pool(u32),
-    Passes(u32),
-    Stride(u32),
-}
 
 /// What a line says.
 #[derive(Debug, Drop)]
@@ -56,9 +47,9 @@ pub fn may_stand(progress: &Progress, verb: Verb) -> bool
     ensures { result ≡ is_placed progress.now verb }
 {
     match verb {
-        Verb::Pool | Verb::Passes | Verb::Stride => is_before_sessions(progress),
+        Verb::Set(_) => is_before_sessions(progress),
         Verb::Session => progress.current.is_none(),
-        _ => progress.current.is_some(),
+        Verb::End | Verb::Do(_) => progress.current.is_some(),
     }
 }
 

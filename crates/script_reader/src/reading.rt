@@ -9,7 +9,6 @@ ghost use Rattle.script_reader.specs.ScriptSpelling.{Spells};
 ghost use Rattle.script_reader.specs.Faults.{IsFirstFault};
 ghost use Rattle.script_reader.specs.Limits.{IsWithinLimits};
 
-use crate::built::is_ready_verb;
 use crate::fault::{ReadRefused, ScriptError};
 use crate::lines::read_item;
 use crate::progress::{Progress, Settings, enter, may_stand};
@@ -34,9 +33,6 @@ fn read_said(alloc: Global, progress: Progress, line: &[u8]) -> Result<Progress,
     ensures { Gives (λ p. p) result (said progress line.now) }
 {
     let (verb, rest) = read_verb(line)?;
-    if !is_ready_verb(verb) {
-        return Err(Refused::Fault(Cause::Unbuilt));
-    }
     if !may_stand(&progress, verb) {
         return Err(Refused::Fault(Cause::Misplaced));
     }

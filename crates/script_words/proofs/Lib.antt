@@ -5,3 +5,4 @@ pub mod Searches
 pub mod NumberLaws
 pub mod TextLaws
 pub mod WordLaws
+pub mod TableLaws

@@ -4,3 +4,5 @@ pub mod Words
 pub mod Numbers
 pub mod Texts
 pub mod Spelling
+pub mod Table
+pub mod Forms

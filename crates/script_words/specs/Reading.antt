@@ -18,3 +18,9 @@ Fails (errors.Fault c) read = read ≡ Err c
 abbrev pub Gives : {X Y : Type 0} → (X → Y) → Result X Refused → Result Y Cause → Type 0
 Gives view (Ok x) read = read ≡ Ok (view x)
 Gives view (Err e) read = Fails e read
+
+-- the answer isn't want of memory
+abbrev pub NeedsNoMemory : {X : Type 0} → Result X Refused → Type 0
+NeedsNoMemory (Ok x) = Unit {0}
+NeedsNoMemory (Err errors.Memory) = ⊥
+NeedsNoMemory (Err (errors.Fault c)) = Unit {0}

@@ -1,6 +1,6 @@
 //! Numbers in decimal.
 ghost use Rattle.std.specs.Prelude.{◌≡◌, ◌≤◌, IfOk, Ok};
-ghost use Rattle.script_words.specs.Reading.{Gives};
+ghost use Rattle.script_words.specs.Reading.{Gives, NeedsNoMemory};
 ghost use Rattle.script_words.specs.Numbers.{digits_from, small, decimal_at, number_at};
 
 use crate::fault::{Cause, Refused};
@@ -42,6 +42,7 @@ pub fn decimal(word: &[u8]) -> Option<u64>
 pub fn read_number(least: u64, most: u64, word: &[u8]) -> Result<u64, Refused>
     ensures value { Gives (λ n. n) result (number_at least most word.now) }
     ensures within { IfOk result (λ n. n ≤ most) }
+    ensures free { NeedsNoMemory result }
 {
     match decimal(word) {
         None => Err(Refused::Fault(Cause::Number)),

@@ -2,7 +2,7 @@
 ghost use Rattle.std.specs.Prelude.{◌≡◌, Ok, length};
 ghost use Rattle.std.specs.Option.{option_map};
 ghost use Rattle.std.specs.List.{list_all};
-ghost use Rattle.script_words.specs.Reading.{Gives};
+ghost use Rattle.script_words.specs.Reading.{Gives, NeedsNoMemory};
 ghost use Rattle.script_words.specs.Words.{cut, word_at, last_word_at, part_at, name_at, is_letter, is_digit, is_name_byte, is_shown, names};
 
 use crate::fault::{Cause, Refused};
@@ -34,7 +34,8 @@ pub fn first_word(line: &[u8]) -> (&[u8], Option<&[u8]>)
 
 /// The next word of a line, and what stands behind its space.
 pub fn take_word(rest: Option<&[u8]>) -> Result<(&[u8], Option<&[u8]>), Refused>
-    ensures { Gives (λ x. (x.0.now, option_map (λ rest. rest.now) x.1)) result (word_at (option_map (λ r. r.now) rest.entry)) }
+    ensures value { Gives (λ x. (x.0.now, option_map (λ rest. rest.now) x.1)) result (word_at (option_map (λ r. r.now) rest.entry)) }
+    ensures free { NeedsNoMemory result }
 {
     let Some(bytes) = rest else {
         return Err(Refused::Fault(Cause::Words));
@@ -48,7 +49,8 @@ pub fn take_word(rest: Option<&[u8]>) -> Result<(&[u8], Option<&[u8]>), Refused>
 
 /// The next word of a line, behind which nothing stands.
 pub fn take_last_word(rest: Option<&[u8]>) -> Result<&[u8], Refused>
-    ensures { Gives (λ x. x.now) result (last_word_at (option_map (λ r. r.now) rest.entry)) }
+    ensures value { Gives (λ x. x.now) result (last_word_at (option_map (λ r. r.now) rest.entry)) }
+    ensures free { NeedsNoMemory result }
 {
     let (word, behind) = take_word(rest)?;
     match behind {
@@ -59,7 +61,8 @@ pub fn take_last_word(rest: Option<&[u8]>) -> Result<&[u8], Refused>
 
 /// All the rest of a line, which isn't empty.
 pub fn take_part(rest: Option<&[u8]>) -> Result<&[u8], Refused>
-    ensures { Gives (λ x. x.now) result (part_at (option_map (λ r. r.now) rest.entry)) }
+    ensures value { Gives (λ x. x.now) result (part_at (option_map (λ r. r.now) rest.entry)) }
+    ensures free { NeedsNoMemory result }
 {
     match rest {
         None => Err(Refused::Fault(Cause::Words)),
