@@ -1,3 +1,4 @@
+pub mod Buffers
 pub mod Calls
 pub mod Causes
 pub mod Logs

@@ -3,6 +3,8 @@
 //! and the sink of a program are std's reader and writer.
 #![tactic(auto)]
 
+mod begun;
+mod buffered_sink;
 mod count_releaser;
 mod gate;
 mod log_releaser;
@@ -20,6 +22,8 @@ mod std_source;
 mod tests;
 mod writing;
 
+pub use begun::Begun;
+pub use buffered_sink::{BUFFER, BufferedSink};
 pub use count_releaser::CountReleaser;
 pub use gate::Gate;
 pub use log_releaser::LogReleaser;

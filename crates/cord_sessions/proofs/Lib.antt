@@ -2,3 +2,4 @@ pub mod Sounds
 pub mod Says
 pub mod Counts
 pub mod EndingLaws
+pub mod Through

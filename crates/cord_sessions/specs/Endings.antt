@@ -70,6 +70,7 @@ pub record IsRead (o : Outside) (bytes : List ℕ) : Type 0 where
 pub record Told (held held_after : Option (List ℕ)) (faults faults_after : ℕ) (line : List ℕ) : Type 0 where
   pub part : AppendsPart held held_after line
   pub whole : ¬ (Rose faults faults_after) → Appends held held_after line
+  pub later : faults ≤ faults_after
 
 -- the source had a script, whose run gave these books and this history
 pub record IsRunOf (o : Outside) (script : Script) (books : List Book) (history : List Entry) : Type 0 where

@@ -1,3 +1,4 @@
 pub mod Asks
+pub mod Emptying
 pub mod Endings
 pub mod Parts

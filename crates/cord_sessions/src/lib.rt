@@ -2,6 +2,7 @@
 #![tactic(auto)]
 
 mod asked;
+mod buffered;
 mod ending;
 mod laws;
 mod running;
@@ -11,6 +12,7 @@ mod tests;
 mod top;
 
 pub use board_sessions::{BoardCord, SessionRefused, run_session};
+pub use buffered::{Served, run_buffered};
 pub use ending::{Ending, MOST_SCRIPT};
 pub use laws::{scripts_are_done, statuses_are_exact};
 pub use running::{Run, RunRefused, run_script};

@@ -1,6 +1,6 @@
 //! Scripts whose whole output is known from the rules of the language, and the ends of a call when the outside fails.
 use super::*;
-use cord_port::{Gate, LogReleaser, MemorySink, MemorySource, Releaser};
+use cord_port::{Failed, Gate, LogReleaser, MemorySink, MemorySource, Releaser, Sink};
 use std::alloc::{AllocError, Global};
 use std::process::Abort;
 use std::sync::Wait;
@@ -356,6 +356,150 @@ fn faults_of_source_and_sink_end_the_call(rt: HostRuntime) -> Result<(), Fail> {
     Ok(())
 }
 
+// What `main` answers to one word, and the bytes that its sink then holds.
+fn served<R: Threads + Wait + Sync>(
+    rt: &R,
+    alloc: Global,
+    word: &str,
+    script: &str,
+    sink: MemorySink,
+) -> Result<(u8, MemorySink), AllocError> {
+    let words = vec![in alloc; String::from_str(alloc, word)?]?;
+    let gate = CountingGate::new();
+    let mut source = source_of(alloc, script)?;
+    let Served { finish, sink } = run_buffered(
+        rt,
+        alloc,
+        &words,
+        &mut source,
+        sink,
+        &gate,
+        Vec::new(alloc),
+    );
+    Ok((finish.status, sink))
+}
+
+// A script whose text has more than two pieces of 65,536 bytes, and the text.
+fn long_script(alloc: Global) -> Result<(String, String), AllocError> {
+    let mut script = String::from_str(alloc, "cords 1\nsession a\nlet x \"a\"*4096\n")?;
+    let mut text = String::from_str(alloc, "session a\nok\n")?;
+    for _ in 0..40 {
+        script.push_str("print x\n")?;
+        text.push_str("\"")?;
+        for _ in 0..4096 {
+            text.push_str("a")?;
+        }
+        text.push_str("\"\n")?;
+    }
+    script.push_str("end\n")?;
+    text.push_str("history 0\npool 0 of 65536\n")?;
+    Ok((script, text))
+}
+
+#[test]
+fn buffered_text_is_whole_or_a_beginning(rt: HostRuntime) -> Result<(), Fail> {
+    for most in [1, 7, 64] {
+        let calls = HELLO_TEXT.len().div_ceil(most);
+        for failing in 0..calls + 1 {
+            let fails = vec![in rt.alloc(); failing as u32 + 1]?;
+            let sink = MemorySink::new(rt.alloc(), 64, most, fails)?;
+            let (status, sink) = served(&rt, rt.alloc(), "run", HELLO, sink)?;
+            assert_eq!(rt; status, if failing < calls { 4 } else { 0 });
+            let count = (failing * most).min(HELLO_TEXT.len());
+            assert_eq!(rt; sink.bytes(), &HELLO_TEXT.as_bytes()[..count]);
+        }
+    }
+    for (word, script, wanted, status) in [
+        ("run", HELLO, HELLO_TEXT, 4),
+        ("check", HELLO, "ok 1 sessions 4 commands\n", 4),
+        ("run", "", HEADER, 1),
+        (
+            "walk",
+            HELLO,
+            "usage: cords run | cords check | cords load SEED SESSIONS COMMANDS\n",
+            2,
+        ),
+    ] {
+        for room in [0, 5] {
+            let sink = MemorySink::new(rt.alloc(), room, 64, Vec::new(rt.alloc()))?;
+            let (answer, sink) = served(&rt, rt.alloc(), word, script, sink)?;
+            assert_eq!(rt; answer, status);
+            assert_eq!(rt; sink.bytes(), &wanted.as_bytes()[..room]);
+        }
+    }
+    Ok(())
+}
+
+// A sink that notes how long each piece was that it was handed.
+#[derive(Drop)]
+struct PieceSink {
+    pieces: Vec<usize>,
+}
+
+impl Sink for PieceSink {
+    ghost use Rattle.std.specs.Prelude.{None};
+
+    ghost held = { λ _. None };
+
+    ghost faults = { λ _. 0 };
+
+    fn write(&mut self, bytes: &[u8]) -> Result<usize, Failed> {
+        let _ = self.pieces.push(bytes.len());
+        Ok(bytes.len())
+    }
+}
+
+#[test]
+fn text_comes_in_lines_and_through_the_buffer_in_large_pieces(rt: HostRuntime) -> Result<(), Fail> {
+    let (script, text) = long_script(rt.alloc())?;
+    let words = vec![in rt.alloc(); String::from_str(rt.alloc(), "run")?]?;
+    let mut source = source_of(rt.alloc(), script.as_str())?;
+    let mut sink = PieceSink {
+        pieces: Vec::new(rt.alloc()),
+    };
+    let gate = CountingGate::new();
+    run_program(
+        &rt,
+        rt.alloc(),
+        &words,
+        &mut source,
+        &mut sink,
+        &gate,
+        Vec::new(rt.alloc()),
+    );
+    let lines = vec![in rt.alloc(); 4099usize; 44]?;
+    assert_eq!(rt; sink.pieces.len(), 44);
+    assert_eq!(rt; &sink.pieces[2..42], &lines[2..42]);
+    assert_eq!(rt; sink.pieces[43], b"pool 0 of 65536\n".len());
+
+    let mut source = source_of(rt.alloc(), script.as_str())?;
+    let sink = PieceSink {
+        pieces: Vec::new(rt.alloc()),
+    };
+    let gate = CountingGate::new();
+    let alone = run_buffered(
+        &rt,
+        rt.alloc(),
+        &words,
+        &mut source,
+        sink,
+        &gate,
+        Vec::new(rt.alloc()),
+    );
+    assert_eq!(rt;
+        alone.sink.pieces.as_slice(),
+        [65536usize, 65536, text.len() - 131072].as_slice()
+    );
+
+    for (failing, count) in [(1, 0), (2, 65536), (3, 131072), (4, text.len())] {
+        let sink = MemorySink::new(rt.alloc(), 262144, 65536, vec![in rt.alloc(); failing]?)?;
+        let (status, sink) = served(&rt, rt.alloc(), "run", script.as_str(), sink)?;
+        assert_eq!(rt; status, if failing < 4 { 4 } else { 0 });
+        assert_eq!(rt; sink.bytes(), &text.as_str().as_bytes()[..count]);
+    }
+    Ok(())
+}
+
 #[test]
 fn one_byte_too_many_is_no_script(rt: HostRuntime) -> Result<(), Fail> {
     let bytes = vec![in rt.alloc(); b'#'; 16777217]?;
@@ -470,21 +614,21 @@ fn two_sessions_meet_at_a_cell(rt: HostRuntime) -> Result<(), Fail> {
 // A gate at which two sessions wait for each other before their second commands, at most so many turns.
 #[derive(Drop)]
 struct MeetingGate {
-    came: AtomicUsize,
-    met: AtomicUsize,
+    came: [AtomicUsize; 2],
+    met: [AtomicUsize; 2],
 }
 
 const TURNS: u32 = 50_000_000;
 
 impl Gate for MeetingGate {
-    fn before<R: Wait>(&self, _rt: &R, _session: usize, command: usize) {
-        if command != 1 {
+    fn before<R: Wait>(&self, _rt: &R, session: usize, command: usize) {
+        if command != 1 || session > 1 {
             return;
         }
-        self.came.fetch_add(1, Ordering::SeqCst);
+        self.came[session].fetch_add(1, Ordering::SeqCst);
         for _ in 0..TURNS {
-            if self.came.load(Ordering::SeqCst) == 2 {
-                self.met.fetch_add(1, Ordering::SeqCst);
+            if self.came[1 - session].load(Ordering::SeqCst) == 1 {
+                self.met[session].fetch_add(1, Ordering::SeqCst);
                 return;
             }
             yield_now();
@@ -497,8 +641,8 @@ fn sessions_run_side_by_side(rt: HostRuntime) -> Result<(), Fail> {
     let script =
         "cords 1\nsession a\nlet x \"a\"\nsize x\nend\nsession b\nlet x \"a\"\nsize x\nend\n";
     let gate = MeetingGate {
-        came: AtomicUsize::new(0),
-        met: AtomicUsize::new(0),
+        came: [AtomicUsize::new(0), AtomicUsize::new(0)],
+        met: [AtomicUsize::new(0), AtomicUsize::new(0)],
     };
     let words = vec![in rt.alloc(); String::from_str(rt.alloc(), "run")?]?;
     let mut source = source_of(rt.alloc(), script)?;
@@ -514,7 +658,10 @@ fn sessions_run_side_by_side(rt: HostRuntime) -> Result<(), Fail> {
         boxes,
     );
     assert_eq!(rt; finish.status, 0);
-    assert_eq!(rt; gate.met.load(Ordering::SeqCst), 2);
+    for session in 0..2 {
+        assert_eq!(rt; gate.came[session].load(Ordering::SeqCst), 1);
+        assert_eq!(rt; gate.met[session].load(Ordering::SeqCst), 1);
+    }
     assert_eq!(rt;
         sink.bytes(),
         b"session a\nok\n1\nsession b\nok\n1\nhistory 0\npool 0 of 65536\n".as_slice()

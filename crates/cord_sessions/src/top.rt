@@ -80,7 +80,8 @@ pub fn check_script<S: Source, K: Sink>(alloc: Global, source: &mut S, sink: &mu
     check_to_end(alloc, source, sink).status()
 }
 
-fn do_asked<R: Threads + Wait + Sync, S: Source, K: Sink, G: Gate + Sync>(
+/// Does what the words ask for, and tells how it ended.
+pub fn do_asked<R: Threads + Wait + Sync, S: Source, K: Sink, G: Gate + Sync>(
     rt: &R,
     alloc: Global,
     words: &[String],
@@ -112,7 +113,7 @@ fn do_asked<R: Threads + Wait + Sync, S: Source, K: Sink, G: Gate + Sync>(
 }
 
 /// Does what the words ask for. `run` reads a script from the source to its end, runs it, and writes its text to the
-/// sink, a line at a time; `check` tells how much the script has. The boxes come back as they were.
+/// sink; `check` tells how much the script has. The boxes come back as they were.
 pub fn run_program<R: Threads + Wait + Sync, S: Source, K: Sink, G: Gate + Sync>(
     rt: &R,
     alloc: Global,

@@ -2,7 +2,7 @@
 #![tactic(auto)]
 
 use cord_port::{Gate, StdSink, StdSource};
-use cord_sessions::run_program;
+use cord_sessions::run_buffered;
 use std::env;
 use std::io::{self, ErrorKind};
 use std::process::ExitCode;
@@ -41,16 +41,16 @@ fn main(rt: HostRuntime) -> ExitCode {
         return ExitCode::from(OUT_OF_MEMORY);
     };
     let mut source = StdSource::new(rt.stdin());
-    let mut sink = StdSink::new(rt.stdout());
+    let sink = StdSink::new(rt.stdout());
     let releasers = Vec::new(rt.alloc());
-    let finish = run_program(
+    let served = run_buffered(
         &rt,
         rt.alloc(),
         &words,
         &mut source,
-        &mut sink,
+        sink,
         &OpenGate,
         releasers,
     );
-    ExitCode::from(finish.status)
+    ExitCode::from(served.finish.status)
 }

@@ -1,4 +1,4 @@
-//! The text of what a run answers, written a line at a time. No call takes memory.
+//! The text of what a run answers, written to a sink. No call takes memory.
 #![tactic(auto)]
 
 mod history;

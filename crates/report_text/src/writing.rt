@@ -109,7 +109,7 @@ fn write_sessions<K: Sink>(
 }
 
 /// Writes a run: for each session the line of its name and those of its answers, then the history, and how many of
-/// the pool's numbers are left in use. The sink is handed a line at a time. After a failure it got a beginning of the text.
+/// the pool's numbers are left in use. After a failure the sink got a beginning of the text.
 pub fn write_run<K: Sink>(
     script: &Script,
     books: &[Book],
