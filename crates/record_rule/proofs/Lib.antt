@@ -1,0 +1,10 @@
+pub mod Acts
+pub mod Deeds
+pub mod Laws
+pub mod Moving
+pub mod Others
+pub mod Slots
+pub mod Sweeps
+pub mod Tokens
+pub mod Turns
+pub mod Walks

@@ -1,0 +1,5 @@
+pub mod Log
+pub mod Notes
+pub mod Steps
+pub mod Views
+pub mod World
