@@ -2,7 +2,7 @@
 ghost use Rattle.std.specs.Prelude.{◌≡◌, ◌<◌, ◌≤◌, vec_len, vec_capacity, MatchResult};
 
 use crate::knowledge::{DeskTable, Knowledge};
-use crate::plays::{Entering, Leaving, Merging, Recalling, Splitting};
+use crate::plays::{Entering, Leave, Leaving, LeavingTo, Merging, Recalling, Splitting};
 use crate::rule::DeskRule;
 use crate::turn::{TakenOut, Turn};
 use atomic_table::{Join, Seat, Split, Table};
@@ -122,6 +122,31 @@ impl<T: DeskRule> Desk<T> {
         let before = self.table.shared.exchange(pass, place, Some(value));
         let None = before else { unreachable!() };
         self.table.shared.store::<Leaving<T>>(pass, place, 0);
+        // Whoever counts itself later finds the word free, and doesn't sleep.
+        if self.sleepers.load(Ordering::SeqCst) > 0 {
+            self.table.shared.wake_one(place);
+        }
+    }
+
+    /// Gives the value back and leaves the turn. The view after it is the caller's choice, which the rule must allow.
+    pub fn exit_to<M: Leave<T::View>>(&self, pass: &mut DeskPass<T>, turn: Turn<T>)
+        requires desk { IsOf self.now pass.old }
+        requires turn { HasTurn pass.old (turn_place turn) (taken_value turn) }
+        requires leaves { T.leaves (turn_place turn) (taken_value turn) (turn_value turn) (desk_view pass.old) (M.after (desk_view pass.old)) }
+        ensures pass { IsSamePass pass.old pass.new × IsIdle pass.new }
+        ensures view { desk_view pass.new ≡ M.after (desk_view pass.old) }
+        ensures agreed { Agreed T.agrees (turn_place turn) (out (taken_value turn)) (desk_view pass.old) }
+    {
+        let TakenOut {
+            place,
+            value,
+            taken: _,
+        } = turn;
+        let slot = self.table.shared.exchange(pass, place, Some(value));
+        let None = slot else { unreachable!() };
+        self.table
+            .shared
+            .store::<LeavingTo<T, M>>(pass, place, 0);
         // Whoever counts itself later finds the word free, and doesn't sleep.
         if self.sleepers.load(Ordering::SeqCst) > 0 {
             self.table.shared.wake_one(place);

@@ -13,7 +13,7 @@ mod turn;
 
 pub use desk::{Busy, Desk, DeskPass};
 pub use knowledge::{DeskTable, Held, Knowledge, Past};
-pub use plays::{Join, Split};
+pub use plays::{Join, Leave, Split};
 pub use rule::DeskRule;
 pub use start::DeskRefused;
 pub use turn::{TakenOut, Turn};

@@ -25,6 +25,23 @@ impl<T: DeskRule> Play<Option<T::Value>, Knowledge<T::Value, T::View>> for Leavi
     ghost then = { left T.agrees T.leaves };
 }
 
+/// Which view the leaver of a turn has then.
+pub trait Leave<V> {
+    ghost after: { V → V };
+}
+
+pub struct LeavingTo<T, M> {
+    rule: PhantomData<T>,
+    leave: PhantomData<M>,
+}
+
+impl<T: DeskRule, M: Leave<T::View>> Play<Option<T::Value>, Knowledge<T::Value, T::View>>
+    for LeavingTo<T, M> {
+    ghost use Rattle.turn_desk.specs.Steps.{left_to};
+
+    ghost then = { left_to T.agrees T.leaves M.after };
+}
+
 pub struct Splitting<M> {
     split: PhantomData<M>,
 }
