@@ -1,6 +1,6 @@
 -- What a session's board actions are, by itself, from what the board and the names tell of them.
-use Rattle.std.proofs.Common.{◌≡◌, ◌∙◌, sym, ap, subst, refl, ℕ, ◌+◌, List, [], ◌∷◌, ◌++◌, map, length, Option, Some, None, Result, Ok, Err, Bool, true, false, length-append, arith, ◌<◌}
-use Rattle.std.specs.Prelude.{IsSome, IsNone, IsSomeAnd, MatchOption, IfOk, if◌then◌else◌, cond}
+use Rattle.std.proofs.Common.{◌≡◌, ◌∙◌, sym, ap, subst, refl, ℕ, ◌+◌, List, [], ◌∷◌, ◌++◌, map, length, Option, Some, None, Result, Ok, Err, Bool, true, false, length-append, ◌<◌}
+use Rattle.std.specs.Prelude.{IsSome, IsNone, IsSomeAnd, MatchOption, IfOk, if◌then◌else◌}
 use Rattle.std.specs.Option.{option_map}
 use Rattle.std.specs.Str.{bytes_eq}
 use Rattle.std.proofs.lemmas.Slice.Eq.{bytes_eq-Decides}
@@ -15,7 +15,7 @@ use Rattle.plain_cord.specs.declared.history.Act.TheVariants.{Put, Take, Peek, S
 use Rattle.plain_cord.specs.declared.deed.Deed.{Deed}
 use Rattle.plain_cord.specs.States.{CordState, Environment, SameNames, empty_cord, with_name}
 use Rattle.plain_cord.specs.Deeds.{deed, mapped_deed}
-use Rattle.plain_cord.specs.Effects.{SessionState, with_given, done_or_empty, brought}
+use Rattle.plain_cord.specs.Effects.{with_given, done_or_empty}
 use Rattle.plain_cord.specs.Steps.{PlainStep}
 use Rattle.plain_cord.specs.Alone.{StepsAlone}
 use Rattle.plain_cord.proofs.AloneLaws.{steps-quiet, put-alone, put-unset, take-alone, peek-alone, swap-alone, swap-unset}

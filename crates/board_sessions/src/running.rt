@@ -1,5 +1,5 @@
 //! All sessions of a script, side by side.
-ghost use Rattle.std.specs.Prelude.{◌≡◌, ◌≤◌, ◌<◌, ℕ, length, map, slice_index_or, true, IfOk};
+ghost use Rattle.std.specs.Prelude.{◌≡◌, ◌≤◌, ◌<◌, ℕ, length, slice_index_or, true, IfOk};
 ghost use Rattle.std.specs.List.{All};
 ghost use Rattle.plain_cord.specs.declared.script.Session.{Session as Session_value};
 ghost use Rattle.plain_cord.specs.Runs.{IsPlainRun};

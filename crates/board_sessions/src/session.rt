@@ -76,9 +76,7 @@ fn do_command<'a, R: Wait>(
 {
     match names.run(command)? {
         Ran::Answered(reply) => Ok(reply),
-        Ran::OnCell { act, cell, a } => {
-            act_on_cell(rt, alloc, board, seat, names, act, cell, a)
-        }
+        Ran::OnCell { act, cell, a } => { act_on_cell(rt, alloc, board, seat, names, act, cell, a) }
     }
 }
 

@@ -1,6 +1,6 @@
 -- One line of a session by itself: a command on byte strings, a command on a cell, and one more line behind others.
-use Rattle.std.proofs.Common.{◌≡◌, ◌∙◌, sym, ap, subst, refl, inl, inr, ℕ, ◌+◌, List, [], ◌∷◌, ◌++◌, map, length, Option, Some, None, Bool, true, false, append_assoc, arith}
-use Rattle.std.specs.Prelude.{◌⊎◌, slice_get, slice_set, unwrap_or, option_map}
+use Rattle.std.proofs.Common.{◌≡◌, ◌∙◌, sym, ap, subst, refl, inl, inr, ℕ, ◌+◌, List, [], ◌∷◌, ◌++◌, length, Option, Some, None, true, false, append_assoc, arith}
+use Rattle.std.specs.Prelude.{unwrap_or, option_map}
 use mathlib.Core.Path.{fun_ext}
 use Rattle.plain_cord.specs.declared.script.Command.{Command}
 use Rattle.plain_cord.specs.declared.script.Command.TheVariants as commands
@@ -11,10 +11,10 @@ use Rattle.plain_cord.specs.declared.history.Act.{Act}
 use Rattle.plain_cord.specs.declared.history.Act.TheVariants.{Put, Take, Peek, Swap}
 use Rattle.plain_cord.specs.declared.deed.Deed.{Deed}
 use Rattle.plain_cord.specs.States.{CordState, Environment, SameNames, empty_cord, with_name}
-use Rattle.plain_cord.specs.Outcomes.{Outcome, answered, Meaning, Sets, Copies, Derives, Edits, Joins, Tells, Asks, Compares, OnCell, meaning, outcome_of, action_in}
+use Rattle.plain_cord.specs.Outcomes.{Outcome, Meaning, Sets, Copies, Derives, Edits, Joins, Tells, Asks, Compares, OnCell, meaning, outcome_of, action_in}
 use Rattle.plain_cord.specs.Steps.{IsOutcome, PlainStep}
 use Rattle.plain_cord.specs.Deeds.{deed}
-use Rattle.plain_cord.specs.Effects.{SessionState, Cells, Effect, held_in, apart, acting, with_own, with_given, done_or_empty, brought, effect, effect_of, PlainEffect}
+use Rattle.plain_cord.specs.Effects.{SessionState, Cells, held_in, apart, acting, with_own, with_given, done_or_empty, brought, effect, effect_of}
 use Rattle.plain_cord.specs.RunOrders.{Line, acts, acts_by, lines}
 use Rattle.plain_cord.specs.Alone.{StepsAlone, RunsAlone}
 

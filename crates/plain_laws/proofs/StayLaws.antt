@@ -1,6 +1,6 @@
 -- A refused command leaves the names as they were.
-use Rattle.std.proofs.Common.{◌≡◌, ◌∙◌, sym, ap, subst, refl, ℕ, List, ◌++◌, length, take, Option, Some, None, Bool, true, false}
-use Rattle.std.specs.Prelude.{◌-◌, drop, nat_le, ◌==◌, if◌then◌else◌}
+use Rattle.std.proofs.Common.{◌≡◌, ◌∙◌, sym, ap, subst, refl, ℕ, List, length, Option, Some, None, Bool, true, false}
+use Rattle.std.specs.Prelude.{◌-◌, nat_le, ◌==◌, if◌then◌else◌}
 use Rattle.std.specs.Str.{bytes_eq}
 use Rattle.std.proofs.lemmas.Slice.Eq.{bytes_eq-Decides}
 use Rattle.std.proofs.lemmas.Bool.{cond_both}

@@ -1,5 +1,5 @@
 -- The board actions of a session, as its commands ask for them, and as the history tells them.
-use Rattle.std.specs.Prelude.{ℕ, List, cond, map, filter_map, Option, Some, None}
+use Rattle.std.specs.Prelude.{ℕ, List, cond, map, filter_map, None}
 use Rattle.plain_cord.specs.declared.history.Act.{Act}
 use Rattle.plain_cord.specs.declared.history.Entry.{Entry}
 use Rattle.plain_cord.specs.Outcomes.{asked_action}

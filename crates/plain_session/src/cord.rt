@@ -1,5 +1,5 @@
 //! A cord as a byte string.
-ghost use Rattle.std.specs.Prelude.{◌≡◌, ◌+◌, ◌*◌, ◌-◌, ◌<◌, ◌≤◌, ◌++◌, length, take, drop, vec_len, Ok, IfOk, OnErr, map};
+ghost use Rattle.std.specs.Prelude.{◌≡◌, ◌+◌, ◌*◌, ◌-◌, ◌<◌, ◌≤◌, ◌++◌, length, take, drop, vec_len, Ok, IfOk, OnErr};
 ghost use Rattle.plain_cord.specs.declared.limits.TheConstants.{MOST_BYTES};
 ghost use Rattle.plain_cord.specs.Texts.{repeated};
 ghost use Rattle.plain_cord.specs.States.{plain, empty_cord};

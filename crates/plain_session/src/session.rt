@@ -1,6 +1,6 @@
 //! The commands of a session, one after another.
-ghost use Rattle.std.specs.Prelude.{◌≡◌, IfOk, OnErr};
-ghost use Rattle.plain_cord.specs.States.{SameNames, no_names};
+ghost use Rattle.std.specs.Prelude.{IfOk, OnErr};
+ghost use Rattle.plain_cord.specs.States.{SameNames};
 ghost use Rattle.plain_cord.specs.Steps.{PlainStep};
 ghost use Rattle.plain_cord.specs.declared.script.Command.TheVariants as commands;
 ghost use Rattle.plain_session.specs.States.{environment_of};
@@ -21,11 +21,7 @@ use std::alloc::AllocError;
 pub enum Ran<'a> {
     Answered(Reply),
     /// The command is on a cell of the board: the act, the cell, and the name whose cord it moves.
-    OnCell {
-        act: Act,
-        cell: u8,
-        a: &'a [u8],
-    },
+    OnCell { act: Act, cell: u8, a: &'a [u8] },
 }
 
 impl<'a> Ran<'a> {
@@ -75,7 +71,11 @@ impl<'a> Names<'a> {
             Command::Sub { a, pos, n, b } => {
                 Ok(Ran::Answered(self.sub(a.as_slice(), *pos, *n, b.as_slice())?))
             }
-            Command::Join { a, b } => Ok(Ran::Answered(self.join(a.as_slice(), b.as_slice(), false)?)),
+            Command::Join { a, b } => Ok(Ran::Answered(self.join(
+                a.as_slice(),
+                b.as_slice(),
+                false,
+            )?)),
             Command::JoinFront { a, b } => {
                 Ok(Ran::Answered(self.join(a.as_slice(), b.as_slice(), true)?))
             }

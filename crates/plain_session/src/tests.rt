@@ -74,17 +74,26 @@ fn commands_are_run(rt: HostRuntime) -> Result<(), Fail> {
     let size = Command::Size {
         a: Items::from_slice(alloc, b"x")?,
     };
-    let mut names = Names::new(alloc);
     let take = Command::Take {
         cell: 63,
         a: Items::from_slice(alloc, b"x")?,
     };
+    let mut names = Names::new(alloc);
     assert!(rt; matches!(names.run(&join)?, Ran::Answered(Reply::Unset { .. })));
     for command in [&first, &second, &join] {
         assert!(rt; matches!(names.run(command)?, Ran::Answered(Reply::Done { .. })));
     }
     assert!(rt; matches!(names.run(&size)?, Ran::Answered(Reply::Number { value: 7 })));
-    assert!(rt; matches!(names.run(&take)?, Ran::OnCell { act: Act::Take, cell: 63, .. }));
+    assert!(rt;
+        matches!(
+            names.run(&take)?,
+            Ran::OnCell {
+                act: Act::Take,
+                cell: 63,
+                ..
+            }
+        )
+    );
     Ok(())
 }
 

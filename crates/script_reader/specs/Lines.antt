@@ -3,6 +3,7 @@ use Rattle.std.specs.Prelude.{ℕ, List, Option, Result, Ok, Err, ◌^◌, ◌-�
 use Rattle.std.specs.List.{list_all}
 use Rattle.script_words.specs.declared.fault.Cause.{Cause}
 use Rattle.script_words.specs.declared.fault.Cause.TheVariants as causes
+use Rattle.script_words.specs.Reading.{◌>>=◌}
 use Rattle.plain_cord.specs.declared.script.Text.{Text}
 use Rattle.plain_cord.specs.declared.script.Command.{Command}
 use Rattle.plain_cord.specs.declared.script.Command.TheVariants as commands
@@ -14,7 +15,6 @@ use Rattle.script_words.specs.declared.verbs.FirstWord.{FirstWord}
 use Rattle.script_words.specs.declared.verbs.FirstWord.TheVariants as firsts
 use Rattle.script_reader.specs.declared.progress.Item.{Item}
 use Rattle.script_reader.specs.declared.progress.Item.TheVariants as items
-use Rattle.script_words.specs.Reading.{◌>>=◌}
 use Rattle.script_words.specs.Words.{cut, word_at, last_word_at, part_at, name_at, is_shown}
 use Rattle.script_words.specs.Numbers.{number_at}
 use Rattle.script_words.specs.Texts.{text_at}

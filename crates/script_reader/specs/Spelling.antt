@@ -2,7 +2,6 @@
 -- It takes from the reading side only the table of first words.
 use Rattle.std.specs.Prelude.{◌≡◌, ℕ, ◌≤◌, List, ◌∷◌, ◌++◌, Option, Some, None}
 use Rattle.plain_cord.specs.declared.script.Text.{Text}
-use Rattle.plain_cord.specs.declared.script.Command.{Command}
 use Rattle.script_words.specs.declared.verbs.SettingVerb.TheVariants as setting_verbs
 use Rattle.script_words.specs.declared.verbs.SettingVerb.{SettingVerb}
 use Rattle.script_words.specs.declared.verbs.Setting.{Setting}

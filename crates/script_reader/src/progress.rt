@@ -1,5 +1,5 @@
 //! What lines say, and what was read so far.
-ghost use Rattle.std.specs.Prelude.{◌≡◌, ◌∷◌, Ok};
+ghost use Rattle.std.specs.Prelude.{◌≡◌, Ok};
 ghost use Rattle.std.specs.List.{list_any};
 ghost use Rattle.script_words.specs.Reading.{Gives};
 ghost use Rattle.script_reader.specs.declared.progress.Item.TheVariants as items;

@@ -1,5 +1,5 @@
 -- The table is one: forms and commands are the same, and its words are words of letters.
-use Rattle.std.proofs.Common.{◌≡◌, ℕ, Bool, true, false, cond, List, [], ◌∷◌, Option, Some, None, refl, sym, ap, ◌∙◌}
+use Rattle.std.proofs.Common.{◌≡◌, ℕ, Bool, true, false, cond, List, [], ◌∷◌, Option, Some, None, refl, ap, ◌∙◌}
 use Rattle.std.specs.Prelude.{◌&&◌, codes, if◌then◌else◌}
 use Rattle.std.specs.List.{list_all, list_any}
 use Rattle.std.specs.Option.{option_map}
@@ -18,7 +18,6 @@ use Rattle.script_words.specs.declared.verbs.NameNumberVerb.TheVariants as name_
 use Rattle.script_words.specs.declared.verbs.NameCellVerb.TheVariants as name_cell_verbs
 use Rattle.script_words.specs.declared.verbs.CellNameVerb.TheVariants as cell_name_verbs
 use Rattle.script_words.specs.declared.verbs.TwoNamesVerb.TheVariants as two_names_verbs
-use Rattle.script_words.specs.declared.verbs.FirstWord.{FirstWord}
 use Rattle.script_words.specs.declared.verbs.FirstWord.TheVariants as firsts
 use Rattle.script_words.specs.Words.{is_letter, is_name_byte}
 use Rattle.script_words.specs.Table.{Words, found_in, name_words, name_text_words, name_number_words, name_cell_words, cell_name_words, two_names_words, or_else, command_word, unbuilt_words, other_word, first_of, word_of_table, Form, OfName, OfNameText, OfNameNumber, OfNameCell, OfCellName, OfTwoNames, OfSub, command_of, form_of}

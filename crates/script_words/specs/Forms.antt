@@ -1,8 +1,7 @@
 -- The limits on what a command has, by the kinds of its arguments.
-use Rattle.std.specs.Prelude.{◌≡◌, ℕ, ◌*◌, ◌^◌, ◌<◌, ◌≤◌, List, [], ◌∷◌, length, Option, Some, None}
+use Rattle.std.specs.Prelude.{ℕ, ◌*◌, ◌^◌, ◌<◌, ◌≤◌, List, [], ◌∷◌, length, Option, Some, None}
 use Rattle.plain_cord.specs.declared.script.Text.{Text}
 use Rattle.plain_cord.specs.declared.script.Command.{Command}
-use Rattle.script_words.specs.Spelling.{IsName}
 use Rattle.script_words.specs.Table.{least_of, most_of, Form, OfName, OfNameText, OfNameNumber, OfNameCell, OfCellName, OfTwoNames, OfSub, form_of}
 
 -- a text has at least so many bytes, and 1,048,576 at most

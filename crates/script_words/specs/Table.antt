@@ -14,7 +14,6 @@ use Rattle.script_words.specs.declared.verbs.CellNameVerb.{CellNameVerb}
 use Rattle.script_words.specs.declared.verbs.TwoNamesVerb.{TwoNamesVerb}
 use Rattle.script_words.specs.declared.verbs.CommandVerb.{CommandVerb}
 use Rattle.script_words.specs.declared.verbs.SettingVerb.{SettingVerb}
-use Rattle.script_words.specs.declared.verbs.Verb.{Verb}
 use Rattle.script_words.specs.declared.verbs.Setting.{Setting}
 use Rattle.script_words.specs.declared.verbs.FirstWord.{FirstWord}
 use Rattle.script_words.specs.declared.verbs.NameVerb.TheVariants as name_verbs

@@ -12,8 +12,8 @@ pub use fault::{Cause, Refused};
 pub use numbers::read_number;
 pub use texts::read_text;
 pub use verbs::{
-    CellNameVerb, CommandVerb, FirstWord, NameCellVerb, NameNumberVerb, NameTextVerb, NameVerb, Setting,
-    SettingVerb, TwoNamesVerb, Verb, find_verb,
+    CellNameVerb, CommandVerb, FirstWord, NameCellVerb, NameNumberVerb, NameTextVerb, NameVerb,
+    Setting, SettingVerb, TwoNamesVerb, Verb, find_verb,
 };
 pub use words::{
     all_shown, first_part, first_word, is_name, read_name, take_last_word, take_part, take_word,

@@ -273,10 +273,7 @@ impl NameNumberVerb {
             NameNumberVerb::CutFront => Command::CutFront { a, n },
             NameNumberVerb::CutBack => Command::CutBack { a, n },
             NameNumberVerb::At => Command::At { a, i: n },
-            NameNumberVerb::SetSum => Command::SetSum {
-                a,
-                value: n as u32,
-            },
+            NameNumberVerb::SetSum => Command::SetSum { a, value: n as u32 },
         }
     }
 }

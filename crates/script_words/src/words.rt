@@ -1,5 +1,5 @@
 //! Bytes, words and names of a line.
-ghost use Rattle.std.specs.Prelude.{◌≡◌, Ok, length};
+ghost use Rattle.std.specs.Prelude.{◌≡◌, Ok};
 ghost use Rattle.std.specs.Option.{option_map};
 ghost use Rattle.std.specs.List.{list_all};
 ghost use Rattle.script_words.specs.Reading.{Gives, NeedsNoMemory};
