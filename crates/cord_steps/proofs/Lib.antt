@@ -1,0 +1,4 @@
+-- The lemmas of this crate.
+pub mod Settled
+pub mod ByteLaws
+pub mod BoardLaws

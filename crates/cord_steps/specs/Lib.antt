@@ -1,0 +1,8 @@
+-- The definitions of this crate.
+pub mod Cords
+pub mod Answers
+pub mod Sessions
+pub mod Doings
+pub mod Marks
+pub mod Boarding
+pub mod Steps

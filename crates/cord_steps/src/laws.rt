@@ -1,0 +1,23 @@
+//! What the plain step promises, of every session.
+ghost use Rattle.std.specs.Prelude.{◌≡◌, ℕ};
+ghost use Rattle.plain_cord.specs.declared.script.Command.{Command as Command_value};
+ghost use Rattle.plain_cord.specs.declared.reply.Reply.{Reply as Reply_value};
+ghost use Rattle.plain_cord.specs.Effects.{PlainEffect};
+ghost use Rattle.cord_steps.specs.Answers.{Request, Plain, Answer, Told, IsResourceRefusal, unmarked};
+ghost use Rattle.cord_steps.specs.Boarding.{left};
+ghost use Rattle.cord_steps.specs.Sessions.{Options, Session, Cells, Effect, plain_session, plain_cells, plain_effect};
+ghost use Rattle.cord_steps.specs.Steps.{IsStep};
+
+/// A command that is refused for want of a height, a pass or a number changes nothing: not its session, no cell, not the history.
+pub fn resource_refusals_change_nothing<R>()
+    ensures { (options : Options) (p : ℕ) (s : Session) (cells : Cells) (request : Request) (answer : Answer R) (e : Effect)
+        → IsStep options p s cells request answer e → IsResourceRefusal answer → e ≡ left s cells }
+{}
+
+/// A command that isn't refused for want of a height, a pass or a number does to bytes, sums, cells and the history what it does on
+/// byte strings, and its reply is the same but for its marks.
+pub fn steps_follow_bytes<R>()
+    ensures { (options : Options) (p : ℕ) (s : Session) (cells : Cells) (command : Command_value) (reply : Reply_value) (e : Effect)
+        → IsStep {Report = R} options p s cells (Plain command) (Told reply) e
+        → PlainEffect p (plain_session s) (plain_cells cells) command (plain_effect e (unmarked reply)) }
+{}
