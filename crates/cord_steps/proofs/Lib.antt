@@ -2,3 +2,4 @@
 pub mod Settled
 pub mod ByteLaws
 pub mod BoardLaws
+pub mod RunLaws

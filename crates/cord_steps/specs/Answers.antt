@@ -37,6 +37,11 @@ IsResourceRefusal (Cords found) = Unit {0}
 IsResourceRefusal (Pool size) = Unit {0}
 IsResourceRefusal _ = ⊥
 
+-- as to a command on byte strings
+abbrev pub IsTold : {Report : Type 0} → Answer Report → Type 0
+IsTold (Told reply) = Unit {0}
+IsTold _ = ⊥
+
 -- the reply without marks
 abbrev pub unmarked : Reply → Reply
 unmarked (replies.Done _ _) = replies.Done marks.Plain None

@@ -6,3 +6,4 @@ pub mod Doings
 pub mod Marks
 pub mod Boarding
 pub mod Steps
+pub mod Runs

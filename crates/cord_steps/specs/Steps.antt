@@ -120,7 +120,7 @@ effect choice p s cells Unsnap answer = left (unsnap_after s answer) cells
 
 -- ---- the step of the session p
 pub record IsStep {Report : Type 0} (options : Options) (p : ℕ) (s : Session) (cells : Cells) (request : Request)
-  (answer : Answer Report) (e : Effect) : Type 0 where
+    (answer : Answer Report) (e : Effect) : Type 0 where
   -- whether a last flat was filled or shortened
   pub choice : Bool
   pub answered : IsAnswer choice options s cells request answer

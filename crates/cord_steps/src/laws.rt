@@ -1,9 +1,12 @@
 //! What the plain step promises, of every session.
-ghost use Rattle.std.specs.Prelude.{◌≡◌, ℕ};
+ghost use Rattle.std.specs.Prelude.{◌≡◌, ◌⊎◌, ℕ, List};
 ghost use Rattle.plain_cord.specs.declared.script.Command.{Command as Command_value};
 ghost use Rattle.plain_cord.specs.declared.reply.Reply.{Reply as Reply_value};
+ghost use Rattle.plain_cord.specs.declared.history.Entry.{Entry as Entry_value};
 ghost use Rattle.plain_cord.specs.Effects.{PlainEffect};
-ghost use Rattle.cord_steps.specs.Answers.{Request, Plain, Answer, Told, IsResourceRefusal, unmarked};
+ghost use Rattle.plain_cord.specs.Runs as plain;
+ghost use Rattle.cord_steps.specs.Answers.{Request, Plain, Answer, Told, IsTold, IsResourceRefusal, unmarked};
+ghost use Rattle.cord_steps.specs.Runs.{Line, Plays, ArePlain, kept_lines};
 ghost use Rattle.cord_steps.specs.Boarding.{left};
 ghost use Rattle.cord_steps.specs.Sessions.{Options, Session, Cells, Effect, plain_session, plain_cells, plain_effect};
 ghost use Rattle.cord_steps.specs.Steps.{IsStep};
@@ -21,3 +24,20 @@ pub fn steps_follow_bytes<R>()
         → IsStep {Report = R} options p s cells (Plain command) (Told reply) e
         → PlainEffect p (plain_session s) (plain_cells cells) command (plain_effect e (unmarked reply)) }
 {}
+
+/// A command on byte strings and cells is answered as on byte strings, but for marks, or refused for want of a height, a pass or a
+/// number.
+pub fn commands_are_answered_or_refused<R>()
+    ensures { (options : Options) (p : ℕ) (s : Session) (cells : Cells) (command : Command_value) (answer : Answer R) (e : Effect)
+        → IsStep options p s cells (Plain command) answer e → IsTold answer ⊎ IsResourceRefusal answer }
+{}
+
+/// A run over trees without the lines that were refused for want of a height, a pass or a number, and without marks, is a run on
+/// byte strings with the same history.
+pub fn runs_without_refusals_are_plain_runs<R>()
+    ensures { (options : Options) (xs : List (ℕ × Line R)) (states : ℕ → Session) (cells : Cells) (history : List Entry_value)
+        → ArePlain xs → Plays options states cells xs history
+        → plain.Plays (λ p. plain_session (states p)) (plain_cells cells) (kept_lines xs) history }
+{
+    resource_refusals_change_nothing::<R>();
+}

@@ -4,4 +4,7 @@
 
 mod laws;
 
-pub use laws::{resource_refusals_change_nothing, steps_follow_bytes};
+pub use laws::{
+    commands_are_answered_or_refused, resource_refusals_change_nothing,
+    runs_without_refusals_are_plain_runs, steps_follow_bytes,
+};
