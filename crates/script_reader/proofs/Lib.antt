@@ -1,4 +1,3 @@
-pub mod LinesRead
 pub mod LineLaws
 pub mod ScriptLines
 pub mod SettingLaws
@@ -7,3 +6,5 @@ pub mod Holds
 pub mod LimitLaws
 pub mod FirstFault
 pub mod WholeLaws
+pub mod FeedLaws
+pub mod FeedSteps

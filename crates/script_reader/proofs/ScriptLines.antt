@@ -47,17 +47,17 @@ written_lines (b ∷ bs) =
     (λ e. (tt, inl (bs, ap (λ (k : ℕ). k ∷ bs) (eqb-true b 10 e), written_lines bs)))
     (λ e. onto_written b bs (lines_of bs) (eqb-false b 10 e) (written_lines bs))
 
-ended_line : (l after : List ℕ) → HasNoNewline l → lines_of (l ++ 10 ∷ after) ≡ l ∷ lines_of after
+pub ended_line : (l after : List ℕ) → HasNoNewline l → lines_of (l ++ 10 ∷ after) ≡ l ∷ lines_of after
 unfolding lines_of
 ended_line [] after h = refl
 ended_line (c ∷ cs) after h = rw (ne_eqb c 10 h.0) (ap (onto c) (ended_line cs after h.1))
 
-last_line : (c : ℕ) (cs : List ℕ) → HasNoNewline (c ∷ cs) → lines_of (c ∷ cs) ≡ (c ∷ cs) ∷ []
+pub last_line : (c : ℕ) (cs : List ℕ) → HasNoNewline (c ∷ cs) → lines_of (c ∷ cs) ≡ (c ∷ cs) ∷ []
 unfolding lines_of
 last_line c [] h = rw (ne_eqb c 10 h.0) refl
 last_line c (d ∷ ds) h = rw (ne_eqb c 10 h.0) (ap (onto c) (last_line d ds h.1))
 
-lines_of_none : lines_of [] ≡ []
+pub lines_of_none : lines_of [] ≡ []
 unfolding lines_of
 lines_of_none = refl
 

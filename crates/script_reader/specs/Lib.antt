@@ -5,3 +5,6 @@ pub mod ScriptSpelling
 pub mod ScriptReading
 pub mod Faults
 pub mod Limits
+pub mod Goes
+pub mod Feeds
+pub mod Fed

@@ -2,6 +2,8 @@
 #![tactic(auto)]
 
 mod fault;
+mod feed;
+mod known;
 mod laws;
 mod lines;
 mod progress;
@@ -9,6 +11,7 @@ mod reading;
 mod verbs;
 
 pub use fault::{ReadRefused, ScriptError};
+pub use feed::{Memory, ScriptFeed};
 pub use laws::{
     fault_or_script, readings_are_right, spelled_script_is_read, spelled_script_is_within_limits,
     spellings_differ,

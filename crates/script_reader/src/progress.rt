@@ -3,6 +3,7 @@ ghost use Rattle.std.specs.Prelude.{◌≡◌, Ok};
 ghost use Rattle.std.specs.List.{list_any};
 ghost use Rattle.script_words.specs.Reading.{Gives};
 ghost use Rattle.script_reader.specs.declared.progress.Item.TheVariants as items;
+ghost use Rattle.script_reader.specs.Goes.{Goes};
 ghost use Rattle.script_reader.specs.Scripts.{is_fresh, is_placed, is_called, chosen, entered};
 
 use plain_cord::{Command, Items, Session};
@@ -104,102 +105,60 @@ fn choose(settings: Settings, setting: Setting) -> Result<Settings, Refused>
 
 /// Begins a session, if its name is new and there are fewer than 16.
 #[tactic(auto, unfolding(crate::specs::Scripts::entered))]
-fn begin_session(alloc: Global, progress: Progress, name: Items<u8>) -> Result<Progress, Refused>
-    ensures { Gives (λ p. p) result (entered progress (items.Begin name)) }
+fn begin_session(alloc: Global, progress: &mut Progress, name: Items<u8>) -> Result<(), Refused>
+    ensures { Goes result progress.new (entered progress.old (items.Begin name)) }
 {
-    let Progress {
-        settings,
-        done,
-        current: _,
-        commands,
-    } = progress;
-    if has_name(done.as_slice(), name.as_slice()) {
+    if has_name(progress.done.as_slice(), name.as_slice()) {
         return Err(Refused::Fault(Cause::Duplicate));
     }
-    if done.len() >= 16 {
+    if progress.done.len() >= 16 {
         return Err(Refused::Fault(Cause::Many));
     }
-    let session = Session {
+    progress.current = Some(Session {
         name,
         commands: Items::new(alloc),
-    };
-    Ok(Progress {
-        settings,
-        done,
-        current: Some(session),
-        commands,
-    })
+    });
+    Ok(())
 }
 
 /// Adds a command to the open session, if there are fewer than 16,384 in all.
 #[tactic(auto, unfolding(crate::specs::Scripts::entered))]
-fn add_command(progress: Progress, command: Command) -> Result<Progress, Refused>
-    ensures { Gives (λ p. p) result (entered progress (items.Do command)) }
+fn add_command(progress: &mut Progress, command: Command) -> Result<(), Refused>
+    ensures { Goes result progress.new (entered progress.old (items.Do command)) }
 {
-    let Progress {
-        settings,
-        done,
-        current,
-        commands,
-    } = progress;
-    let Some(mut session) = current else {
+    let Some(mut session) = progress.current.take() else {
         return Err(Refused::Fault(Cause::Misplaced));
     };
-    if commands >= 16384 {
+    if progress.commands >= 16384 {
         return Err(Refused::Fault(Cause::Many));
     }
     session.commands.push(command)?;
-    Ok(Progress {
-        settings,
-        done,
-        current: Some(session),
-        commands: commands + 1,
-    })
+    progress.current = Some(session);
+    progress.commands += 1;
+    Ok(())
 }
 
 /// Ends the open session.
 #[tactic(auto, unfolding(crate::specs::Scripts::entered))]
-fn end_session(progress: Progress) -> Result<Progress, Refused>
-    ensures { Gives (λ p. p) result (entered progress items.End) }
+fn end_session(progress: &mut Progress) -> Result<(), Refused>
+    ensures { Goes result progress.new (entered progress.old items.End) }
 {
-    let Progress {
-        settings,
-        mut done,
-        current,
-        commands,
-    } = progress;
-    let Some(session) = current else {
+    let Some(session) = progress.current.take() else {
         return Err(Refused::Fault(Cause::Misplaced));
     };
-    done.push(session)?;
-    Ok(Progress {
-        settings,
-        done,
-        current: None,
-        commands,
-    })
+    progress.done.push(session)?;
+    Ok(())
 }
 
 /// Adds what a line says to what was read before.
 #[tactic(auto, unfolding(crate::specs::Scripts::entered))]
-pub fn enter(alloc: Global, progress: Progress, item: Item) -> Result<Progress, Refused>
-    ensures { Gives (λ p. p) result (entered progress item) }
+pub fn enter(alloc: Global, progress: &mut Progress, item: Item) -> Result<(), Refused>
+    ensures { Goes result progress.new (entered progress.old item) }
 {
     match item {
         Item::Set(setting) => {
-            let Progress {
-                settings,
-                done,
-                current,
-                commands,
-            } = progress;
-            let next = choose(settings, setting)?;
-            Ok(Progress {
-                settings: next,
-                done,
-                current,
-                commands,
-            })
+            progress.settings = choose(progress.settings, setting)?;
+            Ok(())
         }
         Item::Begin(name) => begin_session(alloc, progress, name),
         Item::Do(command) => add_command(progress, command),
