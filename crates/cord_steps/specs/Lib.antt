@@ -7,3 +7,4 @@ pub mod Marks
 pub mod Boarding
 pub mod Steps
 pub mod Runs
+pub mod Samples
