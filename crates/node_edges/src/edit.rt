@@ -8,7 +8,7 @@ ghost use Rattle.node_edges.specs.Changes.{edits, FitEach};
 ghost use Rattle.node_edges.specs.Levels.{lowered, AreDeep, AreAt, most_out};
 
 use crate::change::Change;
-use crate::edge::{Body, Edge, total};
+use crate::edge::{Body, Edge};
 use crate::exchange::{all_ready, copies, exchange_all, most_out};
 use crate::filling::fill_and_shorten;
 use crate::memory::Memory;
@@ -169,8 +169,7 @@ fn edit_below(
         edges.reserve(MOST_EDGES - edges.len())?;
         let ready = all_ready(alloc, own)?;
         if deeper.is_empty() {
-            exchange_all(edges, ready, out);
-            edge.length = total(edges);
+            edge.length = exchange_all(edges, ready, out);
             return Ok(());
         }
         let Some((place, rest)) = path.split_first() else {
@@ -178,8 +177,7 @@ fn edit_below(
         };
         let child = &mut edges[usize::from(*place)];
         edit_below(alloc, child, rest, depth + 1, deeper, out)?;
-        exchange_all(edges, ready, out);
-        edge.length = total(edges);
+        edge.length = exchange_all(edges, ready, out);
         return Ok(());
     }
     unreachable!()

@@ -1,13 +1,13 @@
 //! Edges of a Branch that go, and others that come in their place, with all that this needs made beforehand.
 ghost use Rattle.std.specs.Prelude.{◌≡◌, ℕ, ◌+◌, ◌*◌, ◌^◌, ◌≤◌, ◌<◌, List, ◌++◌, length, take, drop, map, reverse, vec_len, vec_capacity, IfOk};
-ghost use Rattle.node_forest.specs.Changes.{edges_after, edges_out};
-ghost use Rattle.node_forest.specs.Limits.{most_edges};
+ghost use Rattle.node_forest.specs.Changes.{edges_after, edges_out, total};
+ghost use Rattle.node_forest.specs.Limits.{length_limit, most_edges};
 ghost use Rattle.node_edges.specs.Limits.{most_changes};
 ghost use Rattle.node_edges.specs.Changes.{exchange_in};
 ghost use Rattle.node_edges.specs.Levels.{exchange_of, exchanges_in, all_after, all_out, all_count, CanExchange, most_out};
 
 use crate::change::Change;
-use crate::edge::Edge;
+use crate::edge::{Edge, total};
 use crate::memory::Memory;
 use node_forest::{MOST_EDGES, Side};
 use std::alloc::Global;
@@ -130,11 +130,14 @@ fn exchange(edges: &mut Vec<Edge>, ready: Ready, out: &mut Vec<Edge>)
     }
 }
 
-/// Does the exchanges, of which the last stands first. What goes stands at the end of `out`.
-pub(crate) fn exchange_all(edges: &mut Vec<Edge>, mut ready: Vec<Ready>, out: &mut Vec<Edge>)
+/// Does the exchanges, of which the last stands first. What goes stands at the end of `out`. Answers how long the edges are
+/// together then.
+pub(crate) fn exchange_all(edges: &mut Vec<Edge>, mut ready: Vec<Ready>, out: &mut Vec<Edge>) -> u64
     requires fit { CanExchange (reverse (map exchange_of ready.items)) edges.old.items }
     requires wide { most_edges ≤ vec_capacity edges.old }
     requires room { vec_len out.old + all_count (reverse (map exchange_of ready.items)) ≤ vec_capacity out.old }
+    requires short { total (all_after (reverse (map exchange_of ready.items)) edges.old.items) < length_limit }
+    ensures long { result ≡ total edges.new.items }
     ensures edges { edges.new.items ≡ all_after (reverse (map exchange_of ready.items)) edges.old.items }
     ensures out { out.new.items ≡ all_out (reverse (map exchange_of ready.items)) edges.old.items out.old.items }
     ensures grown { vec_len out.new ≡ vec_len out.old + all_count (reverse (map exchange_of ready.items)) }
@@ -143,4 +146,5 @@ pub(crate) fn exchange_all(edges: &mut Vec<Edge>, mut ready: Vec<Ready>, out: &m
     while let Some(next) = ready.pop() {
         exchange(edges, next, out);
     }
+    total(edges)
 }

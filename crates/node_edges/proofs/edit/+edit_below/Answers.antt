@@ -35,8 +35,8 @@ returns-in-Flat-clause-removed t c =
     (sym c.in-Flat.is ∙ c.in-Some.ensures.value) view c.edge.invariant c.requires.fit in
     sym (ap (λ (s : Site). s.out) end)
 
-pub exchange_all-requires : goal.exchange_all-requires
-exchange_all-requires t c =
+pub exchange_all-edge-inside-requires : goal.exchange_all-edge-inside-requires
+exchange_all-edge-inside-requires t c =
     let cs = c.args.changes.now in
     let es = c.in-Branch.edges in
     let xs : List Exchange = reverse (map exchange_of c.in_ok-ready.ready.items) in
@@ -48,19 +48,8 @@ exchange_all-requires t c =
       fit = subst (λ (z : List Node). CanExchange xs z) (sym c.reserve-in-Branch.ensures.items) level.made.can;
       wide = omega (arith, c.in_ok-reserve-2.ensures.ok, c.reserve-in-Branch.ensures.len, c.len-in-Branch.ensures, few, es.ok);
       room = omega (arith, level.count, c.requires.room);
+      short = omega (arith, ap (λ (z : List Node). total (all_after xs z)) c.reserve-in-Branch.ensures.items, level.made.short);
     }
-
-pub total-edge-inside-requires : goal.total-edge-inside-requires
-total-edge-inside-requires t c =
-    let cs = c.args.changes.now in
-    let es = c.in-Branch.edges in
-    let xs : List Exchange = reverse (map exchange_of c.in_ok-ready.ready.items) in
-    let at_once : c.deeper_than.result ≡ 0 = omega (arith, none-there c.split_at.result.0.now c.if-is_empty-2.ensures, c.split_at.ensures.front_len) in
-    let level = own-here cs c.args.depth c.edge.inside.number c.edge.inside.length c.in-Branch.height c.in-Branch.edges c.edge.inside.body.value c.args.edge.now c.args.path.now c.args.out.now.items (sym c.in-Branch.is ∙ c.in-Some.ensures.value) (c.edge.view_is ∙ c.unshare.ensures) c.edge.invariant c.requires.fit
-    c.deeper_than.result c.split_at.result.1.now c.in_ok-ready.ready.items at_once c.deeper_than.ensures.here c.split_at.ensures.back c.in_ok-ready.ensures in
-    let made : c.exchange_all.new.edges.items ≡ all_after xs es.items = c.exchange_all.ensures.edges ∙ ap (all_after xs) c.reserve-in-Branch.ensures.items in
-    let short = level.made.short in
-    omega (arith, ap total (c.deref.ensures.value ∙ made), short)
 
 pub invariant_of-edge-then-is_empty-2 : goal.invariant_of-edge-then-is_empty-2
 invariant_of-edge-then-is_empty-2 t c =
@@ -70,8 +59,8 @@ invariant_of-edge-then-is_empty-2 t c =
     let at_once : c.deeper_than.result ≡ 0 = omega (arith, none-there c.split_at.result.0.now c.if-is_empty-2.ensures, c.split_at.ensures.front_len) in
     let level = own-here cs c.args.depth c.edge.inside.number c.edge.inside.length c.in-Branch.height c.in-Branch.edges c.edge.inside.body.value c.args.edge.now c.args.path.now c.args.out.now.items (sym c.in-Branch.is ∙ c.in-Some.ensures.value) (c.edge.view_is ∙ c.unshare.ensures) c.edge.invariant c.requires.fit
     c.deeper_than.result c.split_at.result.1.now c.in_ok-ready.ready.items at_once c.deeper_than.ensures.here c.split_at.ensures.back c.in_ok-ready.ensures in
-    let made : c.exchange_all.new.edges.items ≡ all_after xs es.items = c.exchange_all.ensures.edges ∙ ap (all_after xs) c.reserve-in-Branch.ensures.items in
-    made-branch xs es.items c.exchange_all.new.edges c.total-edge-inside.result made (c.total-edge-inside.ensures ∙ ap total c.deref.ensures.value) level.made.short level.made.some level.made.few c.in-Branch.height
+    let made : c.exchange_all-edge-inside.new.edges.items ≡ all_after xs es.items = c.exchange_all-edge-inside.ensures.edges ∙ ap (all_after xs) c.reserve-in-Branch.ensures.items in
+    made-branch xs es.items c.exchange_all-edge-inside.new.edges c.exchange_all-edge-inside.result made c.exchange_all-edge-inside.ensures.long level.made.short level.made.some level.made.few c.in-Branch.height
 
 pub returns-then-is_empty-2 : goal.returns-then-is_empty-2
 returns-then-is_empty-2 t c =
@@ -81,14 +70,14 @@ returns-then-is_empty-2 t c =
     let at_once : c.deeper_than.result ≡ 0 = omega (arith, none-there c.split_at.result.0.now c.if-is_empty-2.ensures, c.split_at.ensures.front_len) in
     let level = own-here cs c.args.depth c.edge.inside.number c.edge.inside.length c.in-Branch.height c.in-Branch.edges c.edge.inside.body.value c.args.edge.now c.args.path.now c.args.out.now.items (sym c.in-Branch.is ∙ c.in-Some.ensures.value) (c.edge.view_is ∙ c.unshare.ensures) c.edge.invariant c.requires.fit
     c.deeper_than.result c.split_at.result.1.now c.in_ok-ready.ready.items at_once c.deeper_than.ensures.here c.split_at.ensures.back c.in_ok-ready.ensures in
-    let made : c.exchange_all.new.edges.items ≡ all_after xs es.items = c.exchange_all.ensures.edges ∙ ap (all_after xs) c.reserve-in-Branch.ensures.items in
-    let sum : c.total-edge-inside.result ≡ total (all_after xs es.items) = c.total-edge-inside.ensures ∙ ap total (c.deref.ensures.value ∙ made) in
+    let made : c.exchange_all-edge-inside.new.edges.items ≡ all_after xs es.items = c.exchange_all-edge-inside.ensures.edges ∙ ap (all_after xs) c.reserve-in-Branch.ensures.items in
+    let sum : c.exchange_all-edge-inside.result ≡ total (all_after xs es.items) = c.exchange_all-edge-inside.ensures.long ∙ ap total made in
     record {
       edited = (λ i. branch_at c.edge.inside.number (sum i) c.in-Branch.height (made i)) ∙ level.made.tree;
-      removed = c.exchange_all.ensures.out ∙ (ap (λ (z : List Node). all_out xs z c.args.out.now.items) c.reserve-in-Branch.ensures.items ∙ level.made.out);
+      removed = c.exchange_all-edge-inside.ensures.out ∙ (ap (λ (z : List Node). all_out xs z c.args.out.now.items) c.reserve-in-Branch.ensures.items ∙ level.made.out);
       err = tt;
-      grown = omega (arith, c.exchange_all.ensures.grown, level.count);
-      out_capacity = c.exchange_all.ensures.out_capacity;
+      grown = omega (arith, c.exchange_all-edge-inside.ensures.grown, level.count);
+      out_capacity = c.exchange_all-edge-inside.ensures.out_capacity;
     }
 
 pub unreachable-requires : goal.unreachable-requires
@@ -145,8 +134,8 @@ edit_below-requires t c =
       ),
     )
 
-pub exchange_all-requires-in-Branch : goal.exchange_all-requires-in-Branch
-exchange_all-requires-in-Branch t c =
+pub exchange_all-edge-inside-requires-in-Branch : goal.exchange_all-edge-inside-requires-in-Branch
+exchange_all-edge-inside-requires-in-Branch t c =
     let cs = c.args.changes.now in
     let es = c.in-Branch.edges in
     let p = c.from.result in
@@ -167,25 +156,8 @@ exchange_all-requires-in-Branch t c =
       fit = subst (λ (z : List Node). CanExchange xs z) (sym had) level.made.can;
       wide = omega (arith, c.in_ok-reserve-2.ensures.ok, c.reserve-in-Branch.ensures.len, c.len-in-Branch.ensures, few, es.ok);
       room = omega (arith, level.count, c.requires.room, grown, parts, most, c.edit_below.ensures.out_capacity);
+      short = omega (arith, ap (λ (z : List Node). total (all_after xs z)) had, level.made.short);
     }
-
-pub total-edge-inside-requires-in-Branch : goal.total-edge-inside-requires-in-Branch
-total-edge-inside-requires-in-Branch t c =
-    let cs = c.args.changes.now in
-    let es = c.in-Branch.edges in
-    let p = c.from.result in
-    let xs : List Exchange = reverse (map exchange_of c.in_ok-ready.ready.items) in
-    let level = below-here cs c.args.depth c.edge.inside.number c.edge.inside.length c.in-Branch.height c.in-Branch.edges c.edge.inside.body.value c.args.edge.now c.args.path.now c.args.out.now.items (sym c.in-Branch.is ∙ c.in-Some.ensures.value) (c.edge.view_is ∙ c.unshare.ensures) c.edge.invariant c.requires.fit
-    c.deeper_than.result c.split_at.result.0.now c.split_at.result.1.now c.in_ok-ready.ready.items p c.in-Some-split_first.rest.now c.index_mut-child.result.now c.edit_below.new.edge c.edit_below.new.out.items
-    c.deeper_than.ensures.deep c.deeper_than.ensures.here c.if-is_empty-2.ensures c.split_at.ensures.front c.split_at.ensures.back
-    (c.in-Some-split_first.ensures.cases.0 ∙ ap (λ (z : ℕ). z ∷ c.in-Some-split_first.rest.now) (sym c.from.ensures))
-    (c.index_mut-child.ensures.value ∙ ap (λ (z : List Node). get_or z p c.index_mut-child.result.now) c.reserve-in-Branch.ensures.items)
-    c.in_ok-ready.ensures c.in_ok-edit_below.ensures.edited c.in_ok-edit_below.ensures.removed in
-    let kids : List Node = set es.items p c.edit_below.new.edge in
-    let had : set c.reserve-in-Branch.new.self.items p c.edit_below.new.edge ≡ kids = ap (λ (z : List Node). set z p c.edit_below.new.edge) c.reserve-in-Branch.ensures.items in
-    let made : c.exchange_all-in-Branch.new.edges.items ≡ all_after xs kids = c.exchange_all-in-Branch.ensures.edges ∙ ap (all_after xs) had in
-    let short = level.made.short in
-    omega (arith, ap total (c.deref-in-Branch.ensures.value ∙ made), short)
 
 pub invariant_of-edge-in-Branch : goal.invariant_of-edge-in-Branch
 invariant_of-edge-in-Branch t c =
@@ -201,8 +173,8 @@ invariant_of-edge-in-Branch t c =
     c.in_ok-ready.ensures c.in_ok-edit_below.ensures.edited c.in_ok-edit_below.ensures.removed in
     let kids : List Node = set es.items p c.edit_below.new.edge in
     let had : set c.reserve-in-Branch.new.self.items p c.edit_below.new.edge ≡ kids = ap (λ (z : List Node). set z p c.edit_below.new.edge) c.reserve-in-Branch.ensures.items in
-    let made : c.exchange_all-in-Branch.new.edges.items ≡ all_after xs kids = c.exchange_all-in-Branch.ensures.edges ∙ ap (all_after xs) had in
-    made-branch xs kids c.exchange_all-in-Branch.new.edges c.total-edge-inside-in-Branch.result made (c.total-edge-inside-in-Branch.ensures ∙ ap total c.deref-in-Branch.ensures.value) level.made.short level.made.some level.made.few c.in-Branch.height
+    let made : c.exchange_all-edge-inside-in-Branch.new.edges.items ≡ all_after xs kids = c.exchange_all-edge-inside-in-Branch.ensures.edges ∙ ap (all_after xs) had in
+    made-branch xs kids c.exchange_all-edge-inside-in-Branch.new.edges c.exchange_all-edge-inside-in-Branch.result made c.exchange_all-edge-inside-in-Branch.ensures.long level.made.short level.made.some level.made.few c.in-Branch.height
 
 pub returns-in-Branch : goal.returns-in-Branch
 returns-in-Branch t c =
@@ -221,14 +193,14 @@ returns-in-Branch t c =
     let parts = most-parts c.deeper_than.result cs in
     let most = ap most_out c.split_at.ensures.front in
     let grown = c.in_ok-edit_below.ensures.grown in
-    let made : c.exchange_all-in-Branch.new.edges.items ≡ all_after xs kids = c.exchange_all-in-Branch.ensures.edges ∙ ap (all_after xs) had in
-    let sum : c.total-edge-inside-in-Branch.result ≡ total (all_after xs kids) = c.total-edge-inside-in-Branch.ensures ∙ ap total (c.deref-in-Branch.ensures.value ∙ made) in
+    let made : c.exchange_all-edge-inside-in-Branch.new.edges.items ≡ all_after xs kids = c.exchange_all-edge-inside-in-Branch.ensures.edges ∙ ap (all_after xs) had in
+    let sum : c.exchange_all-edge-inside-in-Branch.result ≡ total (all_after xs kids) = c.exchange_all-edge-inside-in-Branch.ensures.long ∙ ap total made in
     record {
       edited = (λ i. branch_at c.edge.inside.number (sum i) c.in-Branch.height (made i)) ∙ level.made.tree;
-      removed = c.exchange_all-in-Branch.ensures.out ∙ (ap (λ (z : List Node). all_out xs z c.edit_below.new.out.items) had ∙ level.made.out);
+      removed = c.exchange_all-edge-inside-in-Branch.ensures.out ∙ (ap (λ (z : List Node). all_out xs z c.edit_below.new.out.items) had ∙ level.made.out);
       err = tt;
-      grown = omega (arith, c.exchange_all-in-Branch.ensures.grown, level.count, grown, parts, most);
-      out_capacity = c.exchange_all-in-Branch.ensures.out_capacity ∙ c.edit_below.ensures.out_capacity;
+      grown = omega (arith, c.exchange_all-edge-inside-in-Branch.ensures.grown, level.count, grown, parts, most);
+      out_capacity = c.exchange_all-edge-inside-in-Branch.ensures.out_capacity ∙ c.edit_below.ensures.out_capacity;
     }
 
 pub unreachable-requires-2 : goal.unreachable-requires-2
