@@ -5,6 +5,7 @@ use atomic_table::Play;
 pub use atomic_table::{Join, Split};
 use std::marker::PhantomData;
 
+/// The exchange of a turn's word that takes the turn, or finds it taken.
 pub struct Entering<T> {
     rule: PhantomData<T>,
 }
@@ -15,6 +16,7 @@ impl<T: DeskRule> Play<Option<T::Value>, Knowledge<T::Value, T::View>> for Enter
     ghost then = { entered T.agrees };
 }
 
+/// The store that frees a turn's word.
 pub struct Leaving<T> {
     rule: PhantomData<T>,
 }
@@ -30,6 +32,7 @@ pub trait Leave<V> {
     ghost after: { V → V };
 }
 
+/// The same, to a view that the caller chose.
 pub struct LeavingTo<T, M> {
     rule: PhantomData<T>,
     leave: PhantomData<M>,
@@ -42,6 +45,7 @@ impl<T: DeskRule, M: Leave<T::View>> Play<Option<T::Value>, Knowledge<T::Value, 
     ghost then = { left_to T.agrees T.leaves M.after };
 }
 
+/// The division of a pass, whose views the caller chose.
 pub struct Splitting<M> {
     split: PhantomData<M>,
 }
@@ -56,6 +60,7 @@ impl<X, V, M: Split<V>> Split<Knowledge<X, V>> for Splitting<M> {
     ghost right = { λ d. knowledge_of Nothing (M.right d.view) (Cut d.view) };
 }
 
+/// The joining of two passes, whose view the caller chose.
 pub struct Merging<T, M> {
     rule: PhantomData<T>,
     join: PhantomData<M>,
