@@ -3,3 +3,5 @@ pub mod Settled
 pub mod ByteLaws
 pub mod BoardLaws
 pub mod RunLaws
+pub mod WholeLaws
+pub mod StayLaws

@@ -10,7 +10,9 @@ use Rattle.plain_cord.specs.RunOrders.{replaced}
 use Rattle.plain_cord.specs.Runs as plain
 use Rattle.cord_steps.specs.Answers.{Request, Plain, Answer, Told, Releasers, HasSnapshot, NoSnapshot, Walked, Ended, Height, Cords, Pool, IsTold, IsResourceRefusal, unmarked}
 use Rattle.cord_steps.specs.Boarding.{left}
-use Rattle.cord_steps.specs.Runs.{Line, Plays, kept_lines, ArePlain}
+use Rattle.plain_cord.specs.Deeds.{empty_cells}
+use Rattle.plain_cord.specs.Effects as bytes
+use Rattle.cord_steps.specs.Runs.{Line, Plays, new_session, IsRunInOrder, kept_lines, ArePlain}
 use Rattle.cord_steps.specs.Sessions.{Options, Session, Cells, Effect, plain_session, plain_cells, plain_effect}
 use Rattle.cord_steps.specs.Steps.{IsDoneAnswer, IsByteAnswer, IsCommandAnswer, IsStep}
 use Rattle.cord_steps.specs.Boarding.{held_in, IsPeekAnswer, IsBoardAnswer}
@@ -133,3 +135,6 @@ module _ {R : Type 0} (options : Options) (rest : RefusalsRest R) where
       (run-kept xs (replaced states p e.state) e.cells go.0 all.1 go.2)
       (λ is. run-kept xs states cells history all.1 (refused-on states cells p e xs history go.0 is go.1 go.2))
   run-kept ((p, (_, answer)) ∷ xs) states cells history all plays = absurd all.0
+
+  pub run-from_start : (boxes : ℕ → ℕ) (xs : List (ℕ × Line R)) (history : List Entry) → ArePlain xs → IsRunInOrder options boxes xs history → plain.Plays (λ p. bytes.new_session) empty_cells (kept_lines xs) history
+  run-from_start boxes xs history all run = run-kept xs (λ p. new_session (boxes p)) empty_cells history all run.plays

@@ -8,3 +8,4 @@ pub mod Boarding
 pub mod Steps
 pub mod Runs
 pub mod Samples
+pub mod Whole

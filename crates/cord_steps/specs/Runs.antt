@@ -1,10 +1,11 @@
 -- Runs of several sessions over trees, as lists of lines in the order in which they are done.
-use Rattle.std.specs.Prelude.{◌≡◌, ℕ, nat_eq, if◌then◌else◌, false, None, List, [], ◌∷◌, ◌++◌}
+use Rattle.std.specs.Prelude.{◌≡◌, ◌≢◌, ℕ, nat_eq, if◌then◌else◌, false, None, List, [], ◌∷◌, ◌++◌, All}
 use Rattle.plain_cord.specs.declared.history.Entry.{Entry}
 use Rattle.plain_cord.specs.declared.reply.NewMark.{NewMark}
 use Rattle.plain_cord.specs.declared.reply.NewMark.TheVariants as marks
 use Rattle.plain_cord.specs.declared.reply.Reply.{Reply}
 use Rattle.plain_cord.specs.declared.reply.Reply.TheVariants as replies
+use Rattle.plain_cord.specs.Deeds.{empty_cells}
 use Rattle.plain_cord.specs.RunOrders as bytes
 use Rattle.plain_cord.specs.RunOrders.{replaced}
 use Rattle.cord_steps.specs.Answers.{Request, Plain, Answer, Told, unmarked}
@@ -43,6 +44,16 @@ stamps_of _ = []
 abbrev pub new_stamps : {Report : Type 0} → List (ℕ × Line Report) → List ℕ
 new_stamps [] = []
 new_stamps (x ∷ xs) = stamps_of x.1.1 ++ new_stamps xs
+
+abbrev pub AreDifferent : List ℕ → Type 0
+AreDifferent [] = Unit {0}
+AreDifferent (n ∷ ns) = All (λ m. n ≢ m) ns × AreDifferent ns
+
+-- from empty cells and sessions with so many boxes each the lines are done in this order, and no stamp is that of two new records
+pub record IsRunInOrder {Report : Type 0} (options : Options) (boxes : ℕ → ℕ) (xs : List (ℕ × Line Report)) (history : List Entry)
+    : Type 0 where
+  pub plays : Plays options (λ p. new_session (boxes p)) empty_cells xs history
+  pub stamps : AreDifferent (new_stamps xs)
 
 -- ---- the lines on byte strings
 abbrev pub kept_line : {Report : Type 0} → ℕ → Line Report → List (ℕ × bytes.Line)

@@ -3,13 +3,16 @@ ghost use Rattle.std.specs.Prelude.{◌≡◌, ◌⊎◌, ℕ, List};
 ghost use Rattle.plain_cord.specs.declared.script.Command.{Command as Command_value};
 ghost use Rattle.plain_cord.specs.declared.reply.Reply.{Reply as Reply_value};
 ghost use Rattle.plain_cord.specs.declared.history.Entry.{Entry as Entry_value};
+ghost use Rattle.plain_cord.specs.Deeds.{empty_cells};
+ghost use Rattle.plain_cord.specs.Effects as bytes;
 ghost use Rattle.plain_cord.specs.Effects.{PlainEffect};
 ghost use Rattle.plain_cord.specs.Runs as plain;
 ghost use Rattle.cord_steps.specs.Answers.{Request, Plain, Answer, Told, IsTold, IsResourceRefusal, unmarked};
-ghost use Rattle.cord_steps.specs.Runs.{Line, Plays, ArePlain, kept_lines};
+ghost use Rattle.cord_steps.specs.Runs.{Line, Plays, IsRunInOrder, ArePlain, kept_lines};
 ghost use Rattle.cord_steps.specs.Boarding.{left};
 ghost use Rattle.cord_steps.specs.Sessions.{Options, Session, Cells, Effect, plain_session, plain_cells, plain_effect};
 ghost use Rattle.cord_steps.specs.Steps.{IsStep};
+ghost use Rattle.cord_steps.specs.Whole.{AreWhole, IsWithin};
 
 /// A command that is refused for want of a height, a pass or a number changes nothing: not its session, no cell, not the history.
 pub fn resource_refusals_change_nothing<R>()
@@ -35,9 +38,19 @@ pub fn commands_are_answered_or_refused<R>()
 /// A run over trees without the lines that were refused for want of a height, a pass or a number, and without marks, is a run on
 /// byte strings with the same history.
 pub fn runs_without_refusals_are_plain_runs<R>()
-    ensures { (options : Options) (xs : List (ℕ × Line R)) (states : ℕ → Session) (cells : Cells) (history : List Entry_value)
+    ensures lines { (options : Options) (xs : List (ℕ × Line R)) (states : ℕ → Session) (cells : Cells) (history : List Entry_value)
         → ArePlain xs → Plays options states cells xs history
         → plain.Plays (λ p. plain_session (states p)) (plain_cells cells) (kept_lines xs) history }
+    ensures whole { (options : Options) (boxes : ℕ → ℕ) (xs : List (ℕ × Line R)) (history : List Entry_value)
+        → ArePlain xs → IsRunInOrder options boxes xs history
+        → plain.Plays (λ p. bytes.new_session) empty_cells (kept_lines xs) history }
 {
     resource_refusals_change_nothing::<R>();
 }
+
+/// Cords stay whole: each has a tree exactly where it has more than 15 bytes or a sum, well formed, of as many bytes as the byte
+/// string has and with its sum, and only a tree has a note.
+pub fn steps_keep_cords_whole<R>()
+    ensures { (options : Options) (p : ℕ) (s : Session) (cells : Cells) (request : Request) (answer : Answer R) (e : Effect)
+        → IsStep options p s cells request answer e → IsWithin request → AreWhole s cells → AreWhole e.state e.cells }
+{}
