@@ -5,6 +5,8 @@ mod actions;
 mod board;
 mod cells;
 mod item;
+#[cfg(test)]
+mod lending_tests;
 mod passes;
 mod rule;
 mod start;

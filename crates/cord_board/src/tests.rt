@@ -32,7 +32,11 @@ impl Twin<u64> for Bytes {
     }
 }
 
-fn cleared<R: Wait>(rt: &R, board: &Board<Bytes>, pass: &mut BoardPass<Bytes>)
+pub(crate) fn cleared<C: BoardItem + Drop, R: Wait>(
+    rt: &R,
+    board: &Board<C>,
+    pass: &mut BoardPass<C>,
+)
     requires board { IsOn board.now pass.old }
     requires last { IsLast (board_view pass.old) }
     ensures board { IsOn board.now pass.new }

@@ -66,7 +66,7 @@ impl<P: Naming, B: Releaser> Pool<P, B> {
                 .shared
                 .join_seat::<Merges<P>>(&mut seat, badge.into_seat());
         }
-        let (in_use, releasers) = emptied(table, seat, numbers, returned);
+        let (in_use, releasers) = emptied(table, seat, numbers, returned.into_room());
         Closed { in_use, releasers }
     }
 }

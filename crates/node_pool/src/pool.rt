@@ -1,5 +1,6 @@
 //! The pool.
-ghost use Rattle.std.specs.Prelude.{◌≡◌, ◌+◌, ◌^◌, ◌<◌, ◌≤◌, length, map, vec_len, vec_capacity};
+ghost use Rattle.std.specs.Prelude.{◌≡◌, ◌+◌, ◌^◌, ◌<◌, ◌≤◌, length, map};
+ghost use Rattle.room_reserve.specs.Rooms.{room_of};
 ghost use Rattle.node_pool.specs.Boxes.{handed_of};
 
 use crate::naming::Naming;
@@ -7,6 +8,7 @@ use crate::outlet::Outlet;
 use crate::view::{CountRule, PoolTerms, TokenView};
 use atomic_table::Table;
 use cord_port::Releaser;
+use room_reserve::Reserve;
 use std::alloc::Global;
 use std::marker::PhantomData;
 
@@ -17,7 +19,7 @@ pub struct Pool<P: Naming, B: Releaser> {
     pub(crate) numbers: usize,
     pub(crate) passes: u64,
     // Room for the boxes that `close` gives back.
-    pub(crate) returned: Vec<B>,
+    pub(crate) returned: Reserve<B>,
     pub(crate) of: PhantomData<P>,
     ghost named: { table.shared.table_id ≡ P.table },
     ghost wide: { table.shared.table_id.words ≡ P.size + 1 },
@@ -28,5 +30,5 @@ pub struct Pool<P: Naming, B: Releaser> {
     ghost slotted: { length table.shared.key.boxes.items ≡ table.shared.table_id.slots },
     ghost small: { P.size ≤ 2 ^ 18 },
     ghost some: { 0 < P.workers },
-    ghost reserved: { (vec_len returned ≡ 0) × (table.shared.table_id.slots ≤ vec_capacity returned) },
+    ghost reserved: { table.shared.table_id.slots ≤ room_of returned },
 }

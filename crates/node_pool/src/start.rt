@@ -6,6 +6,7 @@ ghost use Rattle.pool_rule.specs.Views.{first_view};
 ghost use Rattle.node_pool.specs.Boxes.{below, handed_of, fresh_of, box_of};
 ghost use Rattle.node_pool.specs.Outlets.{boxes_in};
 ghost use Rattle.node_pool.specs.Starts.{slot_count, new_workers};
+ghost use Rattle.room_reserve.specs.Rooms.{room_of};
 
 use crate::close::{emptied, give_back};
 use crate::naming::Naming;
@@ -17,6 +18,7 @@ use crate::tokens::Worker;
 use crate::view::{CountRule, PoolTerms, TokenSeat, TokenView};
 use atomic_table::{Badge, Refused, Table};
 use cord_port::Releaser;
+use room_reserve::Reserve;
 use std::alloc::{AllocError, Global};
 use std::marker::PhantomData;
 
@@ -29,14 +31,14 @@ pub struct Opened<B: Releaser> {
     pub(crate) passes: u64,
     pub(crate) workers: usize,
     // Room for the boxes that `close` gives back.
-    pub(crate) returned: Vec<B>,
+    pub(crate) returned: Reserve<B>,
     ghost wide: { table.shared.table_id.words ≡ numbers + 1 },
     ghost keyed: { (table.shared.key.numbers ≡ numbers) × (table.shared.key.workers ≡ workers) },
     ghost slotted: { length table.shared.key.boxes.items ≡ table.shared.table_id.slots },
     ghost seated: { badge.table_id ≡ table.shared.table_id },
     ghost first: { badge.views ≡ first_view (2 ^ 24) numbers passes workers (below (slot_count workers table.shared.table_id.slots)) ∷ [] },
     ghost small: { (0 < numbers) × (numbers ≤ 2 ^ 18) × (passes ≤ 2 ^ 18) × (0 < workers) × (workers ≤ 64) },
-    ghost reserved: { (vec_len returned ≡ 0) × (table.shared.table_id.slots ≤ vec_capacity returned) },
+    ghost reserved: { table.shared.table_id.slots ≤ room_of returned },
 }
 
 /// Want of memory. The boxes come back, in their order, as they were handed in.
@@ -50,7 +52,7 @@ struct Room<B: Releaser> {
     words: Vec<u64>,
     slots: Vec<Option<Outlet<B>>>,
     boxes: Vec<(u64, Option<u64>)>,
-    returned: Vec<B>,
+    returned: Reserve<B>,
 }
 
 fn reserve<B: Releaser>(alloc: Global, numbers: usize, boxes: usize) -> Result<Room<B>, AllocError>
@@ -58,13 +60,13 @@ fn reserve<B: Releaser>(alloc: Global, numbers: usize, boxes: usize) -> Result<R
     ensures words { IfOk result (λ r. r.words.items ≡ zeroes (numbers + 1)) }
     ensures slots { IfOk result (λ r. (vec_len r.slots ≡ 0) × (boxes ≤ vec_capacity r.slots)) }
     ensures boxes { IfOk result (λ r. (vec_len r.boxes ≡ 0) × (boxes ≤ vec_capacity r.boxes)) }
-    ensures returned { IfOk result (λ r. (vec_len r.returned ≡ 0) × (boxes ≤ vec_capacity r.returned)) }
+    ensures returned { IfOk result (λ r. room_of r.returned ≡ boxes) }
 {
     Ok(Room {
         words: vec![in alloc; 0u64; numbers + 1]?,
         slots: Vec::with_capacity(alloc, boxes)?,
         boxes: Vec::with_capacity(alloc, boxes)?,
-        returned: Vec::with_capacity(alloc, boxes)?,
+        returned: Reserve::new(alloc, boxes)?,
     })
 }
 
@@ -154,7 +156,7 @@ impl<B: Releaser> Opened<B> {
                 returned,
             }),
             Err(Refused { slots }) => Err(PoolRefused {
-                releasers: unhoused(slots, returned),
+                releasers: unhoused(slots, returned.into_room()),
             }),
         }
     }
@@ -183,7 +185,7 @@ impl<B: Releaser> Opened<B> {
         } = self;
         let mut seat: TokenSeat<B> = badge.into_seat();
         let Ok(mut hired) = Vec::<Worker<P>>::with_capacity(alloc, workers) else {
-            let (_, releasers) = emptied(table, seat, numbers, returned);
+            let (_, releasers) = emptied(table, seat, numbers, returned.into_room());
             return Err(PoolRefused { releasers });
         };
         let apart = numbers / workers;

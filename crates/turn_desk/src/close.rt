@@ -19,8 +19,9 @@ where
         let Desk {
             table,
             sleepers: _,
-            mut room,
+            room: reserve,
         } = self;
+        let mut room = reserve.into_room();
         let count = table.slot_count();
         let mut closed = table.close_with(pass);
         for i in 0..count {

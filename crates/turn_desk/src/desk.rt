@@ -1,11 +1,13 @@
 //! The desk, its passes and its turns.
-ghost use Rattle.std.specs.Prelude.{◌≡◌, ◌<◌, ◌≤◌, vec_len, vec_capacity, MatchResult};
+ghost use Rattle.std.specs.Prelude.{◌≡◌, ◌<◌, ◌≤◌, MatchResult};
+ghost use Rattle.room_reserve.specs.Rooms.{room_of};
 
 use crate::knowledge::{DeskTable, Knowledge};
 use crate::plays::{Entering, Leave, Leaving, LeavingTo, Merging, Recalling, Splitting};
 use crate::rule::DeskRule;
 use crate::turn::{TakenOut, Turn};
 use atomic_table::{Join, Seat, Split, Table};
+use room_reserve::Reserve;
 use std::alloc::Global;
 use std::snapshot::Snapshot;
 use std::sync::Wait;
@@ -33,8 +35,8 @@ pub struct Desk<T: DeskRule> {
     // How many threads sleep, or are about to: a turn that is left wakes nobody while there are none.
     pub(crate) sleepers: AtomicU64,
     // Room for the values that `close` gives.
-    pub(crate) room: Vec<Option<T::Value>>,
-    ghost reserved: { (vec_len room ≡ 0) × (table.shared.table_id.slots ≤ vec_capacity room) },
+    pub(crate) room: Reserve<Option<T::Value>>,
+    ghost reserved: { table.shared.table_id.slots ≤ room_of room },
     ghost same: { table.shared.table_id.words ≡ table.shared.table_id.slots },
     ghost some: { 0 < table.shared.table_id.slots },
 }

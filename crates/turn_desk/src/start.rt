@@ -6,6 +6,7 @@ ghost use Rattle.turn_desk.specs.Spots.{home, values_of};
 use crate::desk::{Desk, DeskPass};
 use crate::rule::DeskRule;
 use atomic_table::{Refused, Table};
+use room_reserve::Reserve;
 use std::alloc::{AllocError, Global};
 use std::sync::atomic::AtomicU64;
 
@@ -35,7 +36,7 @@ where
         let count = values.len();
         let (Ok(words), Ok(room), Ok(spare)) = (
             zeros(alloc, count),
-            Vec::with_capacity(alloc, count),
+            Reserve::new(alloc, count),
             Vec::with_capacity(alloc, count),
         ) else {
             return Err(DeskRefused { values });

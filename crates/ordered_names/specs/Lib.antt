@@ -1,0 +1,2 @@
+-- What names stand for, and their order.
+pub mod Named
