@@ -11,6 +11,7 @@ mod merging;
 mod reply;
 mod script;
 mod searching;
+mod statistics;
 
 pub use deed::Deed;
 pub use history::{Act, Entry};
@@ -20,6 +21,7 @@ pub use merging::sessions_alone_make_plain_runs;
 pub use reply::{Book, NewMark, Reply};
 pub use script::{Command, Script, Session, Text};
 pub use searching::{compare_bytes, first_place};
+pub use statistics::Statistics;
 
 #[cfg(test)]
 mod tests;

@@ -1,0 +1,5 @@
+mod Forms
+mod Walks
+mod Totals
+mod Memory
+mod Opening
