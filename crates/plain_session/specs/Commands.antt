@@ -1,5 +1,5 @@
 -- What comes of a command in a session on byte strings.
-use Rattle.std.specs.Prelude.{◌≡◌, ℕ, List}
+use Rattle.std.specs.Prelude.{◌≡◌, ℕ, List, IsSome}
 use Rattle.plain_cord.specs.declared.script.Command.{Command}
 use Rattle.plain_cord.specs.declared.script.Command.TheVariants as commands
 use Rattle.plain_cord.specs.declared.history.Act.{Act}
@@ -24,3 +24,19 @@ Does names command now (OnCell act cell a) = (now ≡ names) × (command ≡ com
 abbrev pub IsOnCell : Ran → Act → ℕ → List ℕ → Type 0
 IsOnCell (Answered reply) act cell a = ⊥
 IsOnCell (OnCell does on named) act cell a = (does ≡ act) × (on ≡ cell) × (named.now ≡ a)
+
+-- a command that takes no memory: a change that adds no bytes, a question that copies none, of a name that was set; or one on a cell
+abbrev pub IsFreeCommand : Environment → Command → Type 0
+IsFreeCommand names (commands.Clear a) = IsSome (names a)
+IsFreeCommand names (commands.CutFront a n) = IsSome (names a)
+IsFreeCommand names (commands.CutBack a n) = IsSome (names a)
+IsFreeCommand names (commands.SetSum a value) = IsSome (names a)
+IsFreeCommand names (commands.Sum a) = IsSome (names a)
+IsFreeCommand names (commands.Size a) = IsSome (names a)
+IsFreeCommand names (commands.At a i) = IsSome (names a)
+IsFreeCommand names (commands.Compare a b) = IsSome (names a) × IsSome (names b)
+IsFreeCommand names (commands.Put a cell) = Unit {0}
+IsFreeCommand names (commands.Take cell a) = Unit {0}
+IsFreeCommand names (commands.Peek cell a) = Unit {0}
+IsFreeCommand names (commands.Swap a cell) = Unit {0}
+IsFreeCommand names _ = ⊥

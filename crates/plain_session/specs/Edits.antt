@@ -37,3 +37,11 @@ joined cord other in_front = if in_front then grown cord (other.bytes ++ cord.by
 
 abbrev pub join_outcome : Environment → List ℕ → List ℕ → Bool → Outcome
 join_outcome names a b in_front = with_cord names a (λ cord. with_cord names b (λ other. keeping names a (joined cord other in_front)))
+
+-- an edit that takes no memory
+abbrev pub IsFree : Edit → Type 0
+IsFree Clear = Unit {0}
+IsFree (CutFront n) = Unit {0}
+IsFree (CutBack n) = Unit {0}
+IsFree (SetSum value) = Unit {0}
+IsFree _ = ⊥

@@ -1,5 +1,5 @@
 //! A cord as a byte string.
-ghost use Rattle.std.specs.Prelude.{◌≡◌, ◌+◌, ◌*◌, ◌-◌, ◌<◌, ◌≤◌, ◌++◌, length, take, drop, vec_len, Ok, IfOk, OnErr};
+ghost use Rattle.std.specs.Prelude.{◌≡◌, ◌+◌, ◌*◌, ◌-◌, ◌<◌, ◌≤◌, ◌++◌, length, take, drop, vec_len, Ok, IsOk, IfOk, OnErr};
 ghost use Rattle.plain_cord.specs.declared.limits.TheConstants.{MOST_BYTES};
 ghost use Rattle.plain_cord.specs.Texts.{repeated};
 ghost use Rattle.plain_cord.specs.States.{plain, empty_cord};
@@ -21,7 +21,7 @@ pub struct PlainCord {
 
 impl PlainCord {
     ghost use Rattle.plain_session.specs.States.{state_of};
-    ghost use Rattle.plain_session.specs.Edits.{change_of, Fits, Leaves};
+    ghost use Rattle.plain_session.specs.Edits.{change_of, Fits, IsFree, Leaves};
 
     /// A cord of these bytes, of which no sum is expected.
     pub fn of_piece(alloc: Global, piece: &[u8], times: u32) -> Result<PlainCord, AllocError>
@@ -187,6 +187,7 @@ impl PlainCord {
         requires { Fits edit }
         ensures ok { IfOk result (λ reply. Leaves (edited_by (state_of self.old) (change_of edit.entry)) (state_of self.new) reply) }
         ensures err { OnErr result (state_of self.new ≡ state_of self.old) }
+        ensures free { IsFree edit.entry → IsOk result }
     {
         match edit {
             Edit::Clear => Ok(self.clear()),

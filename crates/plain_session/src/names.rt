@@ -1,10 +1,10 @@
 //! The names of a session.
-ghost use Rattle.std.specs.Prelude.{◌≡◌, IsSome, IfNone, IfOk, OnOk, OnErr, List};
+ghost use Rattle.std.specs.Prelude.{◌≡◌, IsSome, IsOk, IfNone, IfOk, OnOk, OnErr, List};
 ghost use Rattle.std.specs.Option.{option_map};
 ghost use Rattle.plain_cord.specs.States.{SameNames, no_names, with_name};
 ghost use Rattle.plain_cord.specs.Steps.{IsOutcome};
 ghost use Rattle.plain_session.specs.States.{state_of, environment_of};
-ghost use Rattle.plain_session.specs.Edits.{Fits, change_outcome};
+ghost use Rattle.plain_session.specs.Edits.{Fits, IsFree, change_outcome};
 
 use crate::cord::PlainCord;
 use crate::edit::Edit;
@@ -52,6 +52,7 @@ impl<'a> Names<'a> {
         requires { Fits edit }
         ensures ok { IfOk result (λ reply. IsOutcome (Some (change_outcome (environment_of self.old) name.now edit.entry)) (environment_of self.new) reply) }
         ensures err { OnErr result (SameNames (environment_of self.new) (environment_of self.old)) }
+        ensures free { IsFree edit.entry → IsSome (environment_of self.old name.now) → IsOk result }
     {
         match self.cords.get_mut(name) {
             None => unset(self.alloc, name),

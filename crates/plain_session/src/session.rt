@@ -1,11 +1,11 @@
 //! The commands of a session, one after another.
-ghost use Rattle.std.specs.Prelude.{IfOk, OnErr};
+ghost use Rattle.std.specs.Prelude.{IsSome, IsOk, IfOk, OnErr};
 ghost use Rattle.plain_cord.specs.States.{SameNames};
 ghost use Rattle.plain_cord.specs.Steps.{PlainStep};
 ghost use Rattle.plain_cord.specs.declared.script.Command.TheVariants as commands;
 ghost use Rattle.plain_session.specs.States.{environment_of};
 ghost use Rattle.script_words.specs.Forms.{IsShort, IsWithin};
-ghost use Rattle.plain_session.specs.Commands.{Does, IsOnCell};
+ghost use Rattle.plain_session.specs.Commands.{Does, IsFreeCommand, IsOnCell};
 
 use crate::cord::PlainCord;
 use crate::edit::Edit;
@@ -42,6 +42,7 @@ impl<'a> Names<'a> {
         requires { IsWithin command.now }
         ensures ok { IfOk result (λ ran. Does (environment_of self.old) command.now (environment_of self.new) ran) }
         ensures err { OnErr result (SameNames (environment_of self.new) (environment_of self.old)) }
+        ensures free { IsFreeCommand (environment_of self.old) command.now → IsOk result }
     {
         match command {
             Command::Let { a, text } => Ok(Ran::Answered(self.set_text(a.as_slice(), text)?)),
@@ -101,7 +102,8 @@ impl<'a> Names<'a> {
     }
 
     fn sum(&self, a: &[u8]) -> Result<Reply, AllocError>
-        ensures { IfOk result (λ reply. PlainStep (environment_of self.now) (commands.Sum a.now) (environment_of self.now) reply) }
+        ensures step { IfOk result (λ reply. PlainStep (environment_of self.now) (commands.Sum a.now) (environment_of self.now) reply) }
+        ensures free { IsSome (environment_of self.now a.now) → IsOk result }
     {
         match self.find(a) {
             None => unset(self.alloc, a),
@@ -110,7 +112,8 @@ impl<'a> Names<'a> {
     }
 
     fn size(&self, a: &[u8]) -> Result<Reply, AllocError>
-        ensures { IfOk result (λ reply. PlainStep (environment_of self.now) (commands.Size a.now) (environment_of self.now) reply) }
+        ensures step { IfOk result (λ reply. PlainStep (environment_of self.now) (commands.Size a.now) (environment_of self.now) reply) }
+        ensures free { IsSome (environment_of self.now a.now) → IsOk result }
     {
         match self.find(a) {
             None => unset(self.alloc, a),
@@ -130,7 +133,8 @@ impl<'a> Names<'a> {
     }
 
     fn byte(&self, a: &[u8], i: u64) -> Result<Reply, AllocError>
-        ensures { IfOk result (λ reply. PlainStep (environment_of self.now) (commands.At a.now i) (environment_of self.now) reply) }
+        ensures step { IfOk result (λ reply. PlainStep (environment_of self.now) (commands.At a.now i) (environment_of self.now) reply) }
+        ensures free { IsSome (environment_of self.now a.now) → IsOk result }
     {
         match self.find(a) {
             None => unset(self.alloc, a),
@@ -174,7 +178,8 @@ impl<'a> Names<'a> {
     }
 
     fn order(&self, a: &[u8], b: &[u8]) -> Result<Reply, AllocError>
-        ensures { IfOk result (λ reply. PlainStep (environment_of self.now) (commands.Compare a.now b.now) (environment_of self.now) reply) }
+        ensures step { IfOk result (λ reply. PlainStep (environment_of self.now) (commands.Compare a.now b.now) (environment_of self.now) reply) }
+        ensures free { IsSome (environment_of self.now a.now) → IsSome (environment_of self.now b.now) → IsOk result }
     {
         let Some(cord) = self.find(a) else {
             return unset(self.alloc, a);
