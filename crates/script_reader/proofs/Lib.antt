@@ -8,3 +8,4 @@ pub mod FirstFault
 pub mod WholeLaws
 pub mod FeedLaws
 pub mod FeedSteps
+pub mod CauseLaws

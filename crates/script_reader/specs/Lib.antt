@@ -8,3 +8,4 @@ pub mod Limits
 pub mod Goes
 pub mod Feeds
 pub mod Fed
+pub mod CauseLines

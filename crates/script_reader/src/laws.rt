@@ -6,6 +6,7 @@ ghost use Rattle.script_reader.specs.Scripts.{read_of};
 ghost use Rattle.script_reader.specs.ScriptSpelling.{Spells};
 ghost use Rattle.script_reader.specs.Faults.{IsFirstFault};
 ghost use Rattle.script_reader.specs.Limits.{IsWithinLimits};
+ghost use Rattle.script_reader.specs.CauseLines.{BytesAreTold, CommandsAreTold, UnbuiltAreTold, MisplacedAreTold, DuplicatesAreTold, SessionsAreCounted, CommandsAreCounted};
 
 /// A script is read back from each of its spellings.
 pub fn spelled_script_is_read()
@@ -34,4 +35,16 @@ pub fn fault_or_script()
 /// A script that is spelled has sound names, texts, numbers and counts.
 pub fn spelled_script_is_within_limits()
     ensures { (bytes : List ℕ) (s : Script_value) → Spells bytes s → IsWithinLimits s }
+{}
+
+/// Each cause comes where a line has it, apart from what a reader looks at first: a byte that isn't shown, a first word that is none, one that
+/// isn't built, a line out of place, a session's name for the second time, one session and one command too many.
+pub fn causes_are_told()
+    ensures bytes { BytesAreTold }
+    ensures commands { CommandsAreTold }
+    ensures unbuilt { UnbuiltAreTold }
+    ensures misplaced { MisplacedAreTold }
+    ensures duplicates { DuplicatesAreTold }
+    ensures sessions { SessionsAreCounted }
+    ensures counts { CommandsAreCounted }
 {}
