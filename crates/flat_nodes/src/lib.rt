@@ -3,8 +3,6 @@
 
 mod capacity;
 mod flat;
-#[cfg(test)]
-mod tests;
 
 pub use flat::{new_flat, room_of};
 pub use node_pool::{Edge, NodeError};

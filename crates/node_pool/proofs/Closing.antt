@@ -48,15 +48,20 @@ pub record IsCountedIn (x times_ : ℕ) : Type 0 where
   pub free : x ≡ 0 → times_ ≡ 0
   pub used : x ≢ 0 → 1 ≤ times_
 
+-- a number whose word is 0 stands in no tree of the whole token
+pub number_free : {S : Type 0} (p : Terms S) (id : ℕ) (v : View) (ws : List ℕ) (xs : List S) (n x : ℕ) → Final (Seen (Kept p) id v) ws xs → get_elem? ws n ≡ some x → x ≡ 0 → times n (nodes_of v.holds) ≡ 0
+number_free p id v ws xs n x f at z =
+    let word : get_or f.0.words n 0 ≡ x = ap (λ (z : List ℕ). get_or z n 0) f.2 ∙ word_is ws n x at in
+    dite (dec_le 1 (times n (nodes_of v.holds)))
+    (λ some_. let q = times_some n (nodes_of v.holds) some_ in absurd (in_use p f.0 id v f.1.0 f.1.1 q.0 q.1 (ap (λ (k : ℕ). get_or f.0.words k 0) q.2 ∙ (word ∙ z))))
+    (λ none_. omega (arith, none_))
+
 pub number_counted : {S : Type 0} (p : Terms S) (id : ℕ) (v : View) (ws : List ℕ) (xs : List S) (n x : ℕ) → Final (Seen (Kept p) id v) ws xs → v.spare ≡ p.workers → v.passes ≡ 0 → made_by v ≡ ended_by v → n < p.numbers → get_elem? ws n ≡ some x
     → IsCountedIn x (times n (nodes_of v.holds))
 number_counted p id v ws xs n x f all own ended low at =
     let word : get_or f.0.words n 0 ≡ x = ap (λ (z : List ℕ). get_or z n 0) f.2 ∙ word_is ws n x at in
     record {
-      free = λ z.
-          dite (dec_le 1 (times n (nodes_of v.holds)))
-          (λ some_. let q = times_some n (nodes_of v.holds) some_ in absurd (in_use p f.0 id v f.1.0 f.1.1 q.0 q.1 (ap (λ (k : ℕ). get_or f.0.words k 0) q.2 ∙ (word ∙ z))))
-          (λ none_. omega (arith, none_));
+      free = number_free p id v ws xs n x f at;
       used = λ ne.
           let q = in_use_held p f.0 id v f.1.0 f.1.1 all own ended n low (λ z. ne (sym word ∙ z)) in
           times_pos n q.0 (nodes_of v.holds) q.1 q.2;
@@ -68,6 +73,14 @@ number_more n x before after trees is free used so_far =
     (λ z. let same = free z in let none_ = is.free z in let e : after ≡ numbers_in n trees + min 1 (times n (nodes_of trees)) = omega (arith, same, none_, so_far) in e)
     (λ ne. let more = used ne in let one = is.used ne in let e : after ≡ numbers_in n trees + min 1 (times n (nodes_of trees)) = omega (arith, more, one, so_far) in e)
     ∙ sym (ap (λ (k : ℕ). numbers_in k trees) (add-one n))
+
+-- as many at least, where passes haven't ended
+pub number_least : (n x before after : ℕ) (trees : List Node) → (x ≡ 0 → times n (nodes_of trees) ≡ 0) → (x ≡ 0 → after ≡ before) → (x ≢ 0 → after ≡ before + 1) → numbers_in n trees ≤ before → numbers_in (n + 1) trees ≤ after
+number_least n x before after trees none free used so_far =
+    let more : numbers_in (n + 1) trees ≡ numbers_in n trees + min 1 (times n (nodes_of trees)) = ap (λ (k : ℕ). numbers_in k trees) (add-one n) in
+    dite (ℕ_discrete x 0)
+    (λ z. let same = free z in let zero_ = none z in omega (arith, more, same, zero_, so_far))
+    (λ ne. let one = used ne in omega (arith, more, one, so_far))
 
 numbers_same : (size : ℕ) (a b : List Node) → ((n : ℕ) → times n (nodes_of a) ≡ times n (nodes_of b)) → numbers_in size a ≡ numbers_in size b
 numbers_same zero a b h = refl
@@ -243,6 +256,11 @@ module _ (first : View) (ws all : List View) (v : View) (m : IsMerged first ws v
       let ended = ap (λ (l : List View). sum_by (λ (z : View). z.ended) l) is in
       held m.passes (omega (arith, m.made, m.ended, ended_, made, ended, last-sum (λ (z : View). z.made) ws first, last-sum (λ (z : View). z.ended) ws first))
       ∙ numbers_same size v.holds (all_holds all) (λ n. omega (arith, m.trees n, times_all n all, ap (λ (l : List View). sum_by (times_in n) l) is, last-sum (times_in n) ws first))
+
+  pub merged_least : (size in_use : ℕ) → numbers_in size v.holds ≤ in_use → numbers_in size (all_holds all) ≤ in_use
+  merged_least size in_use least =
+      let same = numbers_same size v.holds (all_holds all) (λ n. omega (arith, m.trees n, times_all n all, ap (λ (l : List View). sum_by (times_in n) l) is, last-sum (times_in n) ws first)) in
+      omega (arith, least, same)
 
   -- where the whole token holds nothing, no worker does
   pub merged_nothing : v.holds ≡ [] → All (λ (w : View). w.holds ≡ []) all

@@ -21,20 +21,23 @@ use Rattle.node_pool.proofs.Seats.{IsAt, IsSeated, steady-sharing, worker_again}
 
 module _ (numbers most : ℕ) where
   -- ---- drawn as the pass ends
-  pub end_tree_at : {S : Type 0} (p : Terms S) (slots id word : ℕ) (me : Me S View) (a b : View) → me.0 ≡ drawing a b → IsWorkerView numbers most a → IsPassView numbers most b → length a.holds + length b.holds ≤ 256 → word ≡ p.numbers
+  pub end_tree_at : {S : Type 0} (p : Terms S) (slots id word : ℕ) (me : Me S View) (a b : View) → me.0 ≡ drawing a b → IsWorkerView numbers most a → IsPassView numbers most b → length a.holds + length b.holds ≤ a.room → word ≡ p.numbers
       → Allows (Kept p) slots id me word (λ n. (n + (2 ^ 64 - 1)) % 2 ^ 64) (λ n m'. Told (ending me.0) me m')
   end_tree_at p slots id word me a b is i j few at =
       subst (λ (k : ℕ). Allows (Kept p) slots id me k (λ n. (n + (2 ^ 64 - 1)) % 2 ^ 64) (λ n m'. Told (ending me.0) me m')) (sym at)
       (ends p slots id me
       (omega (arith, ap (λ (z : View). z.spare) is, i.spare))
       (omega (arith, ap (λ (z : View). z.passes) is, passes_pass numbers most b j))
-      (omega (arith, ap (λ (z : View). length z.holds) is, length-append a.holds b.holds, ap (λ (z : View). z.room) is, i.room, room_pass numbers most b j, few)))
+      (omega (arith, ap (λ (z : View). length z.holds) is, length-append a.holds b.holds, ap (λ (z : View). z.room) is, room_pass numbers most b j, few)))
 
   pub end_tree_is : (a b : View) → IsWorkerView numbers most a → IsPassView numbers most b → ending (drawing a b) ≡ uncounted (drawn a b)
   end_tree_is a b i j =
       let room : a.room + b.room - 1 ≡ a.room = omega (arith, room_pass numbers most b j) in
       let passes : a.passes + b.passes - 1 ≡ a.passes = omega (arith, passes_pass numbers most b j) in
       λ q. record (uncounted (drawn a b)) { room = room q; passes = passes q }
+
+  pub drawn_none : (a b : View) → b.holds ≡ [] → drawn a b ≡ a
+  drawn_none a b none_ = λ q. record a { holds = (ap (λ (z : List Node). a.holds ++ z) none_ ∙ append-nil a.holds) q }
 
   -- ---- shared with an empty pass
   -- a worker with a pass and an empty one
@@ -129,7 +132,7 @@ module _ (numbers most : ℕ) where
   pub sharer : (a b : View) (t : Node) → IsWorkerView numbers most a → IsPassView numbers most b → b.holds ≡ t ∷ [] → length a.holds ≤ 254 → IsSharer a b t
   sharer a b t i j one few =
       let single = ap (λ (z : List Node). length z) one in
-      let first = drawn_worker numbers most a b i j (omega (arith, single, few)) in
+      let first = drawn_worker numbers most a b i j (omega (arith, single, few, i.room)) in
       let held = drawn_held t a b one in
       let hs = a.holds ++ b.holds in
       let second = sharing_worker t (drawn a b) first held (omega (arith, length-append a.holds b.holds, single, few)) in

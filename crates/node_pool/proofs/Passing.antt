@@ -1,5 +1,5 @@
 -- Passes that go to workers and come from them.
-use Rattle.std.proofs.Common.{◌≡◌, ⊎_elim, ℕ, ◌+◌, ◌-◌, ◌%◌, ◌^◌, ◌<◌, ◌≤◌, Bool, List, [], ◌∷◌, ◌++◌, length, refl, sym, ap, subst, ◌∙◌, arith, length-append, append-nil}
+use Rattle.std.proofs.Common.{◌≡◌, ◌⊎◌, inl, inr, ⊎_elim, ℕ, ◌+◌, ◌-◌, ◌%◌, ◌^◌, ◌<◌, ◌≤◌, Bool, List, [], ◌∷◌, ◌++◌, length, refl, sym, ap, subst, ◌∙◌, arith, length-append, append-nil}
 use Rattle.std.specs.Prelude.{if◌then◌else◌}
 use Rattle.std.proofs.lemmas.Bool.{lt-ltb, le-ltb}
 use Rattle.atomic_table.specs.Seated.{TableId}
@@ -76,9 +76,9 @@ module _ (numbers most : ℕ) where
       let passes : v.passes + w.passes - 1 ≡ v.passes = omega (arith, passes_pass w j) in
       λ q. record v { holds = v.holds ++ w.holds; room = room q; passes = passes q }
 
-  pub drawn_worker : (v w : View) → IsWorkerView numbers most v → IsPassView numbers most w → length v.holds + length w.holds ≤ 256 → IsWorkerView numbers most (drawn v w)
+  pub drawn_worker : (v w : View) → IsWorkerView numbers most v → IsPassView numbers most w → length v.holds + length w.holds ≤ v.room → IsWorkerView numbers most (drawn v w)
   drawn_worker v w i j few = record {
-    sane = record { size = refl; roomy = omega (arith, length-append v.holds w.holds, i.room, few); narrow = both v.holds w.holds i.sane.narrow j.narrow; limited = i.sane.limited; fewer = i.sane.fewer };
+    sane = record { size = refl; roomy = omega (arith, length-append v.holds w.holds, few); narrow = both v.holds w.holds i.sane.narrow j.narrow; limited = i.sane.limited; fewer = i.sane.fewer };
     size = i.size;
     limit = i.limit;
     fits = both v.holds w.holds i.fits j.fits;
@@ -90,12 +90,10 @@ module _ (numbers most : ℕ) where
     joined = i.joined;
   }
 
-  pub ended_is : (v w : View) → IsWorkerView numbers most v → IsPassView numbers most w → w.holds ≡ [] → ending (drawing v w) ≡ uncounted v
-  ended_is v w i j none_ =
-      let room : v.room + w.room - 1 ≡ v.room = omega (arith, room_pass w j) in
-      let passes : v.passes + w.passes - 1 ≡ v.passes = omega (arith, passes_pass w j) in
-      let holds : v.holds ++ w.holds ≡ v.holds = ap (λ (z : List Node). v.holds ++ z) none_ ∙ append-nil v.holds in
-      λ q. record v { holds = holds q; room = room q; passes = passes q; ended = v.ended + 1 }
+  -- an empty pass, or one for which there is room
+  pub roomy_with : (v w : View) → IsWorkerView numbers most v → (length w.holds ≡ 0) ⊎ (length v.holds + length w.holds ≤ 256) → length v.holds + length w.holds ≤ v.room
+  roomy_with v w i (inl none_) = omega (arith, none_, i.sane.roomy)
+  roomy_with v w i (inr few) = omega (arith, few, i.room)
 
   pub uncounted_worker : (v : View) → IsWorkerView numbers most v → IsWorkerView numbers most (uncounted v)
   uncounted_worker v i = record {
@@ -166,15 +164,6 @@ module _ (numbers most : ℕ) where
       (omega (arith, ap (λ (z : View). z.spare) is, i.spare))
       (omega (arith, ap (λ (z : View). z.passes) is, passes_pass b j))
       (subst (λ (hs : List Node). HasHolds hs (t ∷ [])) (sym same) held)
-
-  pub end_at : {S : Type 0} (p : Terms S) (slots id word : ℕ) (me : Me S View) (a b : View) → me.0 ≡ drawing a b → IsWorkerView numbers most a → IsPassView numbers most b → length b.holds ≡ 0 → word ≡ p.numbers
-      → Allows (Kept p) slots id me word (λ n. (n + (2 ^ 64 - 1)) % 2 ^ 64) (λ n m'. Told (ending me.0) me m')
-  end_at p slots id word me a b is i j none_ at =
-      subst (λ (k : ℕ). Allows (Kept p) slots id me k (λ n. (n + (2 ^ 64 - 1)) % 2 ^ 64) (λ n m'. Told (ending me.0) me m')) (sym at)
-      (ends p slots id me
-      (omega (arith, ap (λ (z : View). z.spare) is, i.spare))
-      (omega (arith, ap (λ (z : View). z.passes) is, passes_pass b j))
-      (omega (arith, ap (λ (z : View). length z.holds) is, length-append a.holds b.holds, ap (λ (z : View). z.room) is, i.sane.roomy, room_pass b j, none_)))
 
   -- ---- a counted step
   pub count_at : {S : Type 0} (p : Terms S) (slots id word : ℕ) (me : Me S View) (a : View) → me.0 ≡ a → IsWorkerView numbers most a → word ≡ p.numbers → Allows (Kept p) slots id me word (λ n. (n + 1) % 2 ^ 64) (λ n m'. Told (counting n me.0) me m')

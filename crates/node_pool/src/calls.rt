@@ -34,7 +34,8 @@ pub enum Left {
 
 impl<P: Naming, B: Releaser> Pool<P, B> {
     /// A node of this body under a number that was free. The edges in the body were direct holds of the worker and are the
-    /// node's now. The search begins behind the number that this worker took last, and each number is tried once.
+    /// node's now. A refusal has tried each number once. No clause says which number is tried first; it is the one behind that
+    /// which this worker took last.
     pub fn take(&self, alloc: Global, w: &mut Worker<P>, body: Body) -> Result<Edge, TakeError>
         requires body { IsBody body }
         requires held { HasHolds w.old.holds (edges_in_body body) }

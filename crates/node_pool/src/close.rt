@@ -19,21 +19,23 @@ use std::alloc::Global;
 /// What is left of a pool.
 #[derive(Drop)]
 pub struct Closed<B> {
-    /// How many words aren't 0.
+    /// How many numbers are in use: all that stand in the workers' trees, and those in the trees of passes that haven't ended.
     pub in_use: u32,
     /// The boxes in their first order.
     pub releasers: Vec<B>,
 }
 
 impl<P: Naming, B: Releaser> Pool<P, B> {
-    /// All workers are given. Where they ended together as many passes as they made, the numbers in use are those that stand in their
-    /// trees, so none where they hold nothing. Where none is, each box whose slot an external used was called for it, and no other box was.
+    /// All workers are given. The numbers that stand in their trees are in use, and no others where they ended together as many passes
+    /// as they made, so none where they hold nothing. Where none is, each box whose slot an external used was called for it, and no other box was.
     pub fn close(self, workers: Vec<Worker<P>>) -> Closed<B>
         requires all { length workers.items ≡ P.workers }
         ensures idle { IsAllIdle workers.items → result.in_use ≡ 0 }
         ensures counts { AreCountsWithin workers.items }
         ensures taken { AreTakenByWorkers workers.items }
         ensures held { AreAllEnded workers.items → result.in_use ≡ numbers_in P.size (all_holds workers.items) }
+        ensures least { numbers_in P.size (all_holds workers.items) ≤ result.in_use }
+        ensures most { result.in_use ≤ P.size }
         ensures nothing { result.in_use ≡ 0 → All (λ (v : View). v.holds ≡ []) workers.items }
         ensures boxes { AreReturned P.boxes workers.items result.in_use (map (λ b. record { calls = B.calls_of b; latest = B.latest_of b }) result.releasers.items) }
     {
@@ -86,6 +88,8 @@ pub(crate) fn emptied<B: Releaser>(
     ensures idle { IsWhole table.shared.key.workers seat.me.0 → result.0 ≡ 0 }
     ensures known { IsKnown seat.me.0 }
     ensures held { seat.me.0.passes ≡ 0 → made_by seat.me.0 ≡ ended_by seat.me.0 → result.0 ≡ numbers_in numbers seat.me.0.holds }
+    ensures least { numbers_in numbers seat.me.0.holds ≤ result.0 }
+    ensures most { result.0 ≤ numbers }
     ensures nothing { result.0 ≡ 0 → seat.me.0.holds ≡ [] }
     ensures boxes { AreReturned (map handed_of table.shared.key.boxes.items) (seat.me.0 ∷ []) result.0 (map (λ b. record { calls = B.calls_of b; latest = B.latest_of b }) result.1.items) }
 {

@@ -9,29 +9,17 @@ mod finish;
 mod laws;
 mod look;
 mod mark;
-#[cfg(test)]
-mod mark_tests;
 mod naming;
 mod outlet;
-#[cfg(test)]
-mod outlet_tests;
 mod pass_trees;
 mod passes;
 mod plays;
 mod pool;
 mod refusals;
 mod slices;
-#[cfg(test)]
-mod rule_tests;
-#[cfg(test)]
-mod slot_tests;
 mod slots;
 mod start;
-#[cfg(test)]
-mod tests;
 mod tokens;
-#[cfg(test)]
-mod tree_tests;
 mod view;
 mod words;
 

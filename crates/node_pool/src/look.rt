@@ -14,7 +14,7 @@ use crate::tokens::Worker;
 use crate::view::TokenSeat;
 use atomic_table::Badge;
 use cord_port::Releaser;
-use node_edges::{Body, Edge};
+use node_edges::Edge;
 use std::marker::Brand;
 use std::mem;
 
@@ -56,13 +56,5 @@ fn child_of(edge: &Edge, place: u8) -> &Edge
     requires { place < length (children edge.now) }
     ensures { result.now ≡ child_at edge.now place }
 {
-    match edge.body() {
-        Body::Part { child, .. } => child,
-        Body::Sum { child, .. } => match child {
-            Some(child) => child,
-            None => unreachable!(),
-        },
-        Body::Branch { edges, .. } => &edges[place as usize],
-        _ => unreachable!(),
-    }
+    &edge.edges()[place as usize]
 }

@@ -1,5 +1,5 @@
 //! The tree that a pass keeps: shared with an empty pass, or drawn as the pass ends.
-ghost use Rattle.std.specs.Prelude.{◌≡◌, ◌+◌, ◌≤◌, [], ◌∷◌, length};
+ghost use Rattle.std.specs.Prelude.{◌≡◌, ◌⊎◌, ◌+◌, ◌≤◌, [], ◌∷◌, length};
 ghost use Rattle.pool_rule.specs.Trades.{Trades, SameHolds};
 ghost use Rattle.pool_rule.specs.Views.{sharing};
 ghost use Rattle.node_pool.specs.Passes.{uncounted, filled, drawn};
@@ -21,6 +21,14 @@ impl<P: Naming, B: Releaser> Pool<P, B> {
         requires room { length w.old.holds + length p.holds ≤ 256 }
         ensures drawn { w.new ≡ uncounted (drawn w.old p) }
         ensures traded { Trades w.old.holds [] p.holds w.new.holds }
+    {
+        self.take_in(w, p);
+    }
+
+    /// What a pass holds becomes the worker's last direct hold, if it holds anything, and the pass ends.
+    pub(crate) fn take_in(&self, w: &mut Worker<P>, p: Pass<P>)
+        requires room { (length p.holds ≡ 0) ⊎ (length w.old.holds + length p.holds ≤ 256) }
+        ensures drawn { w.new ≡ uncounted (drawn w.old p) }
     {
         let mut seat: TokenSeat<B> = mem::replace(&mut w.badge, Badge::blank()).into_seat();
         let Pass { badge, of: _ } = p;

@@ -5,7 +5,7 @@ ghost use Rattle.node_pool.specs.Passes.{counted, uncounted, filled, drawn, IsPa
 
 use crate::naming::{Chosen, Naming};
 use crate::outlet::Outlet;
-use crate::plays::{Counts, Draws, Ends, Hands, Parts, Undoes};
+use crate::plays::{Counts, Draws, Hands, Parts, Undoes};
 use crate::pool::Pool;
 use crate::tokens::{Pass, Worker};
 use crate::view::TokenSeat;
@@ -54,15 +54,7 @@ impl<P: Naming, B: Releaser> Pool<P, B> {
         requires empty { p.holds ≡ [] }
         ensures ended { w.new ≡ uncounted w.old }
     {
-        let mut seat: TokenSeat<B> = mem::replace(&mut w.badge, Badge::blank()).into_seat();
-        let Pass { badge, of: _ } = p;
-        self.table
-            .shared
-            .join_seat::<Draws<P>>(&mut seat, badge.into_seat());
-        self.table
-            .shared
-            .fetch_sub::<Ends>(&mut seat, self.numbers, 1);
-        w.badge = seat.into_badge();
+        self.take_in(w, p);
     }
 
     /// The pass's tree becomes the worker's last direct hold.

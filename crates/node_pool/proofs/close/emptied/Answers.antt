@@ -8,7 +8,7 @@ use Rattle.std.proofs.lemmas.List.{length-map}
 use Rattle.node_pool.specs.Boxes.{handed_of}
 use Rattle.node_pool.specs.Closes.{AreReturned, numbers_in}
 use Rattle.node_pool.specs.Outlets.{box_in, boxes_in}
-use Rattle.node_pool.proofs.Closing.{zero_word, still_free, known_at, number_counted, number_more}
+use Rattle.node_pool.proofs.Closing.{zero_word, still_free, known_at, number_free, number_counted, number_more, number_least}
 use Rattle.node_pool.proofs.Returning.{boxes_in-take, handed_in, nothing_held, returned}
 use Rattle.node_pool.proofs.close.emptied.Goals as goal
 
@@ -21,6 +21,7 @@ loop-n-preserved g c =
     record {
       few = omega (arith, inv.few, e.most);
       held = λ own ended. number_more c.loop-n.n _ _ _ _ (number_counted _ _ _ _ _ _ _ c.close_with-closed.ensures.values.2 c.requires.whole.0 own ended (omega (arith, keyed.1, low)) c.word.ensures) e.free e.used (inv.held own ended);
+      least = number_least c.loop-n.n _ _ _ _ (number_free _ _ _ _ _ c.loop-n.n _ c.close_with-closed.ensures.values.2 c.word.ensures) e.free e.used inv.least;
       free = still_free _ _ _ _ _ c.word.ensures e.free e.used inv.free;
       idle = λ w. e.free (zero_word _ _ _ _ _ _ _ c.close_with-closed.ensures.values.2 w (omega (arith, keyed.1, low)) c.word.ensures) ∙ inv.idle w;
     }
@@ -59,6 +60,11 @@ pub returns-clause-held : goal.returns-clause-held
 returns-clause-held g c =
     let whole : c.loop-n.n ≡ c.args.numbers = omega (arith, c.loop-n-test.false, c.loop-n.auto.n-end) in
     λ own ended. c.loop-n.invariant.held own ended ∙ ap (λ (k : ℕ). numbers_in k c.args.seat.me.0.holds) whole
+
+pub returns-clause-least : goal.returns-clause-least
+returns-clause-least g c =
+    let whole : c.loop-n.n ≡ c.args.numbers = omega (arith, c.loop-n-test.false, c.loop-n.auto.n-end) in
+    subst (λ (k : ℕ). numbers_in k c.args.seat.me.0.holds ≤ c.loop-n.in_use) whole c.loop-n.invariant.least
 
 pub returns-clause-nothing : goal.returns-clause-nothing
 returns-clause-nothing g c = λ z. nothing_held _ _ _ _ _ c.close_with-closed.ensures.values.2 (λ n low. c.loop-n.invariant.free z n (omega (arith, low, c.requires.numbers.1)))

@@ -11,6 +11,7 @@ invariant-loop-n g l = record {
   few : l.in_use ≤ l.n;
   idle : IsWhole l.fn.table.shared.key.workers l.fn.seat.me.0 → l.in_use ≡ 0;
   held : l.fn.seat.me.0.passes ≡ 0 → made_by l.fn.seat.me.0 ≡ ended_by l.fn.seat.me.0 → l.in_use ≡ numbers_in l.n l.fn.seat.me.0.holds;
+  least : numbers_in l.n l.fn.seat.me.0.holds ≤ l.in_use;
   free : l.in_use ≡ 0 → (k : ℕ) → k < l.n → get_or (slots_items l.closed.words) k 0 ≡ 0;
 }
 

@@ -1,5 +1,5 @@
 -- What the proof of `Pool::close` needs beyond the search.
-use Rattle.std.proofs.Common.{rules, ◌≡◌, ◌++◌, ◌∷◌, [], ℕ, List, map, ap, sym, ◌∙◌, subst, arith}
+use Rattle.std.proofs.Common.{rules, ◌≡◌, ◌≤◌, ◌++◌, ◌∷◌, [], ℕ, List, map, ap, sym, ◌∙◌, subst, arith}
 use Rattle.std.proofs.lemmas.Iterator.Adapters.{YieldsList-from_vec}
 use Rattle.std.proofs.lemmas.Iterator.Consumers.{YieldsList-end}
 use Rattle.pool_rule.specs.Pools.{Handed, made_by, ended_by}
@@ -8,7 +8,7 @@ use Rattle.node_pool.specs.Boxes.{handed_of}
 use Rattle.node_pool.specs.Closes.{IsWhole, AreReturned, numbers_in}
 use Rattle.node_pool.proofs.Returning.{handed_in}
 use Rattle.node_pool.proofs.Seats.{seated_moved}
-use Rattle.node_pool.proofs.Closing.{IsMerged, merged_more, map-id, merged_whole, merged_counts, merged_taken, merge_at, merged_nothing, merged_boxes, merged_held}
+use Rattle.node_pool.proofs.Closing.{IsMerged, merged_more, map-id, merged_whole, merged_counts, merged_taken, merge_at, merged_nothing, merged_boxes, merged_held, merged_least}
 use Rattle.node_pool.proofs.pool.Pool.close.Goals as goal
 
 pub join_seat-requires : goal.join_seat-requires
@@ -48,6 +48,9 @@ returns g c =
       taken = merged_taken c.into_seat-seat.result.me.0 c.loop-worker.yielded c.args.workers.items c.loop-worker.seat.me.0 inv.merged parts known;
       held = λ ended. merged_held c.into_seat-seat.result.me.0 c.loop-worker.yielded c.args.workers.items c.loop-worker.seat.me.0 inv.merged parts g.P.Naming.size c.emptied-in_use.result.0
           (subst (λ (size : ℕ). c.loop-worker.seat.me.0.passes ≡ 0 → made_by c.loop-worker.seat.me.0 ≡ ended_by c.loop-worker.seat.me.0 → c.emptied-in_use.result.0 ≡ numbers_in size c.loop-worker.seat.me.0.holds) pool.sized.0 c.emptied-in_use.ensures.held) ended;
+      least = merged_least c.into_seat-seat.result.me.0 c.loop-worker.yielded c.args.workers.items c.loop-worker.seat.me.0 inv.merged parts g.P.Naming.size c.emptied-in_use.result.0
+          (subst (λ (size : ℕ). numbers_in size c.loop-worker.seat.me.0.holds ≤ c.emptied-in_use.result.0) pool.sized.0 c.emptied-in_use.ensures.least);
+      most = omega (arith, c.emptied-in_use.ensures.most, pool.sized.0);
       nothing = λ z. merged_nothing c.into_seat-seat.result.me.0 c.loop-worker.yielded c.args.workers.items c.loop-worker.seat.me.0 inv.merged parts (c.emptied-in_use.ensures.nothing z);
       boxes = subst (λ (z : List Handed). AreReturned z c.args.workers.items c.emptied-in_use.result.0 back) pool.boxed
           (merged_boxes c.into_seat-seat.result.me.0 c.loop-worker.yielded c.args.workers.items c.loop-worker.seat.me.0 inv.merged parts (map handed_of pool.table.shared.key.boxes.items) back c.emptied-in_use.result.0 c.emptied-in_use.ensures.boxes);

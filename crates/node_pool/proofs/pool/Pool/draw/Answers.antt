@@ -1,8 +1,8 @@
 -- What the proof of `Pool::draw` needs beyond the search.
-use Rattle.std.proofs.Common.{refl, sym, ◌∙◌, arith}
+use Rattle.std.proofs.Common.{inr, refl, sym, ◌∙◌, arith}
 use Rattle.pool_rule.specs.Views.{parting}
 use Rattle.node_pool.proofs.Seats.{seated, said_as, split_at, views_at, token_at}
-use Rattle.node_pool.proofs.Passing.{join_at, drawn_at, part_at, drawn_is, drawn_worker}
+use Rattle.node_pool.proofs.Passing.{join_at, drawn_at, part_at, drawn_is, drawn_worker, roomy_with}
 use Rattle.node_pool.proofs.OwnSlots.{slots_stay}
 use Rattle.node_pool.proofs.pool.Pool.draw.Goals as goal
 
@@ -29,6 +29,6 @@ invariant_of-w g c =
     let m = g.P.Naming.limit in
     let last = said_as (split_at (drawn_at n m w p c.join_seat.ensures) parting c.split_seat-empty.ensures) (drawn_is n m _ _ w.known p.known) in (
       c.w.invariant.0,
-      token_at last c.into_badge.ensures (drawn_worker n m _ _ w.known p.known c.requires.room),
+      token_at last c.into_badge.ensures (drawn_worker n m _ _ w.known p.known (roomy_with n m _ c.args.p.now w.known (inr c.requires.room))),
       slots_stay _ _ _ _ _ c.w.invariant.2 c.w.view_is (views_at last c.into_badge.ensures) refl refl,
     )

@@ -1,6 +1,0 @@
--- What the proof of `changed_below` needs beyond the search.
-use Rattle.std.proofs.Common.{refl}
-use Rattle.node_pool.proofs.mark_tests.changed_below.Goals as goal
-
-pub mark-requires-clause-lone : goal.mark-requires-clause-lone
-mark-requires-clause-lone g c = c.if-not-lone_down.ensures.lone refl

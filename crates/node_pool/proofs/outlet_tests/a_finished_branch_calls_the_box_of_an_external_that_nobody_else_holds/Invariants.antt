@@ -1,6 +1,0 @@
--- The name of the test's pool.
-use Rattle.node_pool.specs.Opened.{opened_table, opened_numbers, opened_passes, opened_workers, opened_boxes}
-use Rattle.node_pool.proofs.outlet_tests.a_finished_branch_calls_the_box_of_an_external_that_nobody_else_holds.Given as goal
-
-abbrev pub ghosts-ended : goal.ghosts-ended
-ghosts-ended g a = record { table = opened_table a.opened; size = opened_numbers a.opened; workers = opened_workers a.opened; limit = opened_passes a.opened; boxes = opened_boxes a.opened }

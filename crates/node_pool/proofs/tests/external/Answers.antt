@@ -1,6 +1,0 @@
--- What the proof of `external` needs beyond the search.
-use Rattle.pool_rule.proofs.Trades.{Stands-held, HasHolds-gained}
-use Rattle.node_pool.proofs.tests.external.Goals as goal
-
-pub share-requires-clause-stands : goal.share-requires-clause-stands
-share-requires-clause-stands g c = Stands-held _ _ (HasHolds-gained _ _ _ c.in-Ok-take.ensures.traded)

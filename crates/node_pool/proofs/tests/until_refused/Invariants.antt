@@ -1,6 +1,0 @@
--- So many flats are held.
-use Rattle.std.proofs.Common.{◌≡◌, length}
-use Rattle.node_pool.proofs.tests.until_refused.Given as goal
-
-abbrev pub invariant-loop-i : goal.invariant-loop-i
-invariant-loop-i g l = length l.w.holds ≡ l.i

@@ -1,6 +1,0 @@
--- What the proof of `filled` needs beyond the search.
-use Rattle.std.proofs.Common.{[]}
-use Rattle.node_pool.proofs.tree_tests.filled.Goals as goal
-
-pub mark-requires-clause-lone : goal.mark-requires-clause-lone
-mark-requires-clause-lone g c = c.paths_that_looks_find_are_lone.ensures c.args.edge.now [] c.args.w.now _ tt c.if-not-look.ensures.looked

@@ -1,0 +1,6 @@
+-- So many flats are held.
+use Rattle.std.proofs.Common.{◌≡◌, length}
+use Rattle.pool_tests.proofs.calls.until_refused.Given as goal
+
+abbrev pub invariant-loop-i : goal.invariant-loop-i
+invariant-loop-i g l = length l.w.holds ≡ l.i
