@@ -10,6 +10,7 @@ use Rattle.turn_desk.specs.Passes.{IsIdle, Ended}
 use Rattle.turn_desk.specs.Table.{word_of, slot_of, idle, seen, Holds, Kept, Was}
 use Rattle.atomic_table.specs.Table.{State}
 use Rattle.atomic_table.specs.declared.shared.Seat.{Seat}
+use Rattle.turn_desk.specs.declared.knowledge.Held.{Held}
 use Rattle.turn_desk.specs.declared.knowledge.Held.TheVariants.{Nothing, Turn}
 use Rattle.turn_desk.proofs.Keeps.{shown, free_turn}
 
@@ -39,6 +40,18 @@ module _ {X : Type 0} where
   pub home_slots : (xs : List X) → map some (map Some xs) ≡ map slot_of (map home xs)
   home_slots [] = refl
   home_slots (x ∷ xs) = ap (λ l. some (Some x) ∷ l) (home_slots xs)
+
+module _ {X V : Type 0} where
+  -- what a pass had, in the list of all
+  held_at : (views : List (Knowledge X V)) (by : ℕ) (d : Knowledge X V) → get_elem? views by ≡ some d → get_elem? (map (λ (z : Knowledge X V). z.held) views) by ≡ some d.held
+  held_at [] by d e = absurd (some-ne-none d (sym e))
+  held_at (v ∷ vs) zero d e = ap (λ (z : Knowledge X V). some z.held) (some-injective v d e)
+  held_at (v ∷ vs) (suc by) d e = held_at vs by d e
+
+  held_by : (views : List (Knowledge X V)) (by : ℕ) (h : Held X) → get_elem? (map (λ (z : Knowledge X V). z.held) views) by ≡ some h → (d : Knowledge X V) × (get_elem? views by ≡ some d) × (d.held ≡ h)
+  held_by [] by h e = absurd (some-ne-none h (sym e))
+  held_by (v ∷ vs) zero h e = (v, refl, some-injective v.held h e)
+  held_by (v ∷ vs) (suc by) h e = held_by vs by h e
 
 module _ {X V : Type 0} (agrees : List (Spot X) → List (Option V) → Type 0) where
   pub opens : (values : List X) (first : V) (ws : List ℕ) (xs : List (Option X)) → ws ≡ replicate (length values) 0 → xs ≡ map Some values → agrees (map home values) (Some first ∷ []) → Kept agrees (opening ws xs (idle first))
@@ -71,10 +84,20 @@ module _ {X V : Type 0} (agrees : List (Spot X) → List (Option V) → Type 0) 
   ends s r p values idle at e = record {
     spots = r.spots;
     views = map seen s.views;
+    turns = map (λ (d : Knowledge X V). d.held) s.views;
     agreed = r.agreed;
     mine = shown agrees s.views p.id p.me.0 Nothing at idle.0 refl;
+    idle = held_at s.views p.id p.me.0 at ∙ ap (λ z. some z) idle.0;
     given = e;
     others = λ l x f.
-        let h = r.holder l x f in
-        (h.0, h.1.view, (λ same. free_turn p.me.0.held l x idle.0 (ap (λ (z : Knowledge X V). z.held) (some-injective p.me.0 h.1 (sym at ∙ (ap (get_elem? s.views) (sym same) ∙ h.2))) ∙ h.3)), shown agrees s.views h.0 h.1 (Turn l x) h.2 h.3 refl);
+        let h = r.holder l x f in (
+          h.0,
+          h.1.view,
+          (λ same. free_turn p.me.0.held l x idle.0 (ap (λ (z : Knowledge X V). z.held) (some-injective p.me.0 h.1 (sym at ∙ (ap (get_elem? s.views) (sym same) ∙ h.2))) ∙ h.3)),
+          shown agrees s.views h.0 h.1 (Turn l x) h.2 h.3 refl,
+          held_at s.views h.0 h.1 h.2 ∙ ap (λ z. some z) h.3,
+        );
+    taken = λ by l x f.
+        let d = held_by s.views by (Turn l x) f in
+        let holds : Holds r.spots r.owner by (Turn l x) = subst (λ (z : Held X). Holds r.spots r.owner by z) d.2 (r.each by d.0 d.1) in holds.0;
   }

@@ -5,6 +5,7 @@ use lib.ListN.{get_elem?}
 use Rattle.atomic_table.specs.declared.shared.Seat.{Seat}
 use Rattle.turn_desk.specs.declared.desk.Desk.{Desk}
 use Rattle.turn_desk.specs.declared.knowledge.Knowledge.{Knowledge}
+use Rattle.turn_desk.specs.declared.knowledge.Held.{Held}
 use Rattle.turn_desk.specs.declared.knowledge.Held.TheVariants.{Nothing, Turn}
 use Rattle.turn_desk.specs.declared.turn.TakenOut.{TakenOut}
 use Rattle.turn_desk.specs.Spots.{Spot, out, at_home}
@@ -39,12 +40,16 @@ module _ {X V : Type 0} where
   abbrev pub IsTurnOf : ℕ → Seat (Option X) (Knowledge X V) → TakenOut X → Type 0
   IsTurnOf place p turn = (turn_place turn ≡ place) × (turn_value turn ≡ taken_value turn) × HasTurn p place (taken_value turn)
 
-  -- the last state: these values were at home, and each other one was out with a pass other than this
+  -- the last state: these values were at home, and each other one was out with the pass that had its turn, one other than this
   pub record Ended (agrees : List (Spot X) → List (Option V) → Type 0) (p : Seat (Option X) (Knowledge X V)) (values : List (Option X)) : Type 0 where
     pub spots : List (Spot X)
     pub views : List (Option V)
+    -- what each pass had
+    pub turns : List (Held X)
     pub agreed : agrees spots views
     pub mine : get_elem? views p.id ≡ some (Some (desk_view p))
+    pub idle : get_elem? turns p.id ≡ some Nothing
     pub given : values ≡ map at_home spots
     pub others : (place : ℕ) (value : X) → get_elem? spots place ≡ some (out value)
-        → (by : ℕ) × (view : V) × (by ≢ p.id) × (get_elem? views by ≡ some (Some view))
+        → (by : ℕ) × (view : V) × (by ≢ p.id) × (get_elem? views by ≡ some (Some view)) × (get_elem? turns by ≡ some (Turn place value))
+    pub taken : (by place : ℕ) (value : X) → get_elem? turns by ≡ some (Turn place value) → get_elem? spots place ≡ some (out value)

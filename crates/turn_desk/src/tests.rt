@@ -4,6 +4,7 @@ ghost use Rattle.turn_desk.specs.Passes.{desk_places, IsOf, IsSamePass, IsIdle};
 use super::*;
 use std::alloc::{AllocError, Global};
 use std::sync::Wait;
+use std::sync::atomic::Ordering;
 use std::test::Fail;
 use std::thread;
 
@@ -122,5 +123,57 @@ fn threads_that_wait_for_a_turn_all_have_theirs(rt: HostRuntime) -> Result<(), F
         || added(&rt, &desk, &mut second),
     );
     assert_eq!(rt; desk.close(last).as_slice(), [Some(4000)].as_slice());
+    Ok(())
+}
+
+// Takes the turn, and leaves it once another pass sleeps.
+fn left_late<R: Wait>(rt: &R, desk: &Desk<Anything>, pass: &mut DeskPass<Anything>)
+    requires desk { IsOf desk.now pass.old × (0 < desk_places desk.now) }
+    requires idle { IsIdle pass.old }
+    ensures { IsSamePass pass.old pass.new × IsIdle pass.new }
+{
+    let turn = desk.enter(rt, pass, 0);
+    for _ in 0..100_000u32 {
+        if desk.sleepers.load(Ordering::SeqCst) > 0 {
+            break;
+        }
+        thread::yield_now();
+    }
+    // The other pass was about to sleep. Now it does.
+    for _ in 0..1000u32 {
+        thread::yield_now();
+    }
+    desk.exit(pass, turn);
+}
+
+// Waits for a turn that was found taken.
+fn entered_behind<R: Wait>(rt: &R, desk: &Desk<Anything>, pass: &mut DeskPass<Anything>)
+    requires desk { IsOf desk.now pass.old × (0 < desk_places desk.now) }
+    requires idle { IsIdle pass.old }
+    ensures { IsSamePass pass.old pass.new × IsIdle pass.new }
+{
+    for _ in 0..100_000u32 {
+        match desk.try_enter(pass, 0) {
+            Ok(turn) => desk.exit(pass, turn),
+            Err(_) => break,
+        }
+        thread::yield_now();
+    }
+    let turn = desk.enter(rt, pass, 0);
+    desk.exit(pass, turn);
+}
+
+// Without the call that wakes, the second thread sleeps for ever.
+#[test]
+fn sleeping_thread_is_woken(rt: HostRuntime) -> Result<(), Fail> {
+    let (desk, mut first) = started(rt.alloc(), vec![in rt.alloc(); 3u64]?)?;
+    let mut second = desk.split::<Either>(&mut first);
+    let last = desk.split::<Either>(&mut first);
+    thread::join(
+        &rt,
+        || left_late(&rt, &desk, &mut first),
+        || entered_behind(&rt, &desk, &mut second),
+    );
+    assert_eq!(rt; desk.close(last).as_slice(), [Some(3)].as_slice());
     Ok(())
 }
