@@ -7,6 +7,7 @@ mod begun;
 mod buffered_sink;
 mod count_releaser;
 mod gate;
+mod interruptions;
 mod log_releaser;
 mod memory_sink;
 mod memory_source;

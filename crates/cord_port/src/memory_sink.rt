@@ -1,9 +1,9 @@
 //! A sink into memory, for tests.
-ghost use Rattle.std.specs.Prelude.{◌≡◌, ◌≤◌, ◌<◌, ◌-◌, ◌↔◌, ◌⊎◌, vec_len, vec_capacity, Some, [], length, min, Contains, IsErr, IfOk};
+ghost use Rattle.std.specs.Prelude.{◌≡◌, ◌≤◌, ◌<◌, ◌-◌, ◌↔◌, ◌⊎◌, vec_len, vec_capacity, Some, [], length, min, Contains, IsErr, OnErr, IfOk};
 ghost use Rattle.std.specs.Io.{WritesAtMost};
 ghost use Rattle.std.specs.Io.KnownBytes.{WriteAppends};
 ghost use Rattle.cord_port.specs.Causes.{WriteCause};
-ghost use Rattle.cord_port.specs.Calls.{next_call};
+ghost use Rattle.cord_port.specs.Calls.{next_call, next_fault};
 ghost use Rattle.cord_port.specs.Memories.{sink_bytes, sink_room, sink_most, sink_calls, sink_fails, sink_faults};
 
 use crate::{Failed, Memory, Sink};
@@ -61,6 +61,8 @@ impl Sink for MemorySink {
         ensures bound { WritesAtMost result bytes.now }
         ensures bytes { WriteAppends (Some (sink_bytes self.old)) (Some (sink_bytes self.new)) result bytes.now }
         ensures cause { WriteCause (sink_faults self.old) (sink_faults self.new) result bytes.now }
+        ensures rises { OnErr result (sink_faults self.new ≡ next_fault (sink_faults self.old)) }
+        ensures nothing { IfOk result (λ n. n ≡ 0 → 0 < length bytes.now → sink_faults self.new ≡ next_fault (sink_faults self.old)) }
         ensures fails { IsErr result ↔ (Contains (sink_fails self.old) (sink_calls self.new) ⊎ ((0 < length bytes.now) × (sink_room self.old ≡ 0))) }
         ensures fits { IfOk result (λ n. n ≡ min (min (length bytes.now) (sink_most self.old)) (sink_room self.old)) }
         ensures call { sink_calls self.new ≡ next_call (sink_calls self.old) }

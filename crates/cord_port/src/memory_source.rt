@@ -1,9 +1,9 @@
 //! A source over bytes in memory, for tests.
-ghost use Rattle.std.specs.Prelude.{◌≡◌, ◌≤◌, ◌↔◌, vec_len, Some, length, min, Contains, IsErr, IfOk};
+ghost use Rattle.std.specs.Prelude.{◌≡◌, ◌≤◌, ◌↔◌, vec_len, Some, length, min, Contains, IsErr, OnErr, IfOk};
 ghost use Rattle.std.specs.Io.{ReadsAtMost};
 ghost use Rattle.std.specs.Io.KnownBytes.{ReadConsumes};
 ghost use Rattle.cord_port.specs.Causes.{ReadCause};
-ghost use Rattle.cord_port.specs.Calls.{next_call};
+ghost use Rattle.cord_port.specs.Calls.{next_call, next_fault};
 ghost use Rattle.cord_port.specs.Texts.{CountsGiven};
 
 use crate::{Failed, Source};
@@ -53,6 +53,7 @@ impl Source for MemorySource {
         ensures bytes { ReadConsumes (Some (source_bytes self.old)) (Some (source_bytes self.new)) result buf.new }
         ensures count { CountsGiven (source_given self.old) (source_given self.new) result }
         ensures cause { ReadCause (source_faults self.old) (source_faults self.new) result }
+        ensures rises { OnErr result (source_faults self.new ≡ next_fault (source_faults self.old)) }
         ensures fails { IsErr result ↔ Contains (source_fails self.old) (source_calls self.new) }
         ensures fits { IfOk result (λ n. n ≡ min (length (source_bytes self.old)) (length buf.old)) }
         ensures call { source_calls self.new ≡ next_call (source_calls self.old) }

@@ -1,10 +1,12 @@
 //! std's reader as a source.
-ghost use Rattle.std.specs.Prelude.{◌≡◌};
+ghost use Rattle.std.specs.Prelude.{◌≡◌, ◌≢◌, IfErr};
+ghost use Rattle.std.specs.IoError.{error_kind};
 ghost use Rattle.std.specs.Io.{ReadsAtMost};
 ghost use Rattle.std.specs.Io.KnownBytes.{ReadConsumes};
 
+use crate::interruptions::is_interruption;
 use crate::{Failed, Source};
-use std::io::{ErrorKind, Read};
+use std::io::{self, ErrorKind, Read};
 
 /// A source over a reader. It tells the bytes that are left where the reader does. A read that a signal interrupts is
 /// made again. It gives fewer than 2^64 bytes in all: a read that might pass this fails.
@@ -48,20 +50,21 @@ impl<R: Read + Drop> Source for StdSource<R> {
     }
 }
 
-// One read, made again where a signal interrupts it.
-fn read_uninterrupted<R: Read>(reader: &mut R, buf: &mut [u8]) -> Result<usize, Failed>
+// One read, made again where a signal interrupts it. An error is the reader's own, or says that 2^64 reads were interrupted.
+fn read_uninterrupted<R: Read>(reader: &mut R, buf: &mut [u8]) -> io::Result<usize>
     ensures bound { ReadsAtMost result buf.new }
     ensures bytes { ReadConsumes (R.remaining reader.old) (R.remaining reader.new) result buf.new }
+    ensures own { IfErr result (λ error. error_kind error ≢ ErrorKind.Interrupted) }
 {
     for _ in 0..u64::MAX {
         match reader.read(buf) {
             Ok(count) => return Ok(count),
             Err(error) => {
-                if error.kind() != ErrorKind::Interrupted {
-                    return Err(Failed);
+                if !is_interruption(&error) {
+                    return Err(error);
                 }
             }
         }
     }
-    Err(Failed)
+    Err(io::Error::from(ErrorKind::Other))
 }

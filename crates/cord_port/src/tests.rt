@@ -1,7 +1,7 @@
-ghost use Rattle.std.specs.Prelude.{◌≡◌};
+ghost use Rattle.std.specs.Prelude.{◌≡◌, ◌≤◌, IfOk};
 
 use super::*;
-use std::io::Cursor;
+use std::io::{self, Cursor, ErrorKind, Read, Write};
 use std::test::Fail;
 
 #[test]
@@ -110,5 +110,70 @@ fn boxed_releaser_serves_as_one(rt: HostRuntime) -> Result<(), Fail> {
     let boxed: Box<dyn Releaser + Send> = Box::new(rt.alloc(), CountReleaser::new())?;
     assert_eq!(rt; calls_after_two(boxed), 2);
     assert_eq!(rt; calls_after_two(CountReleaser::new()), 2);
+    Ok(())
+}
+
+// A reader and writer that answers one byte, or an error where one is listed, call by call.
+#[derive(Drop)]
+struct Fitful {
+    errors: Vec<Option<ErrorKind>>,
+    calls: usize,
+}
+
+impl Fitful {
+    fn answer(&mut self, room: usize) -> io::Result<usize>
+        ensures { IfOk result (λ n. n ≤ room) }
+    {
+        let call = self.calls;
+        self.calls = self.calls.saturating_add(1);
+        match self.errors.get(call) {
+            Some(Some(kind)) => Err(io::Error::from(*kind)),
+            _ => Ok(room.min(1)),
+        }
+    }
+}
+
+impl Read for Fitful {
+    fn read(&mut self, buf: &mut [u8]) -> io::Result<usize> {
+        self.answer(buf.len())
+    }
+}
+
+impl Write for Fitful {
+    fn write(&mut self, bytes: &[u8]) -> io::Result<usize> {
+        self.answer(bytes.len())
+    }
+
+    fn flush(&mut self) -> io::Result<()> {
+        Ok(())
+    }
+}
+
+#[test]
+fn interrupted_calls_are_made_again_and_no_others(rt: HostRuntime) -> Result<(), Fail> {
+    let stop = Some(ErrorKind::Interrupted);
+    let broken = Some(ErrorKind::BrokenPipe);
+    for (errors, wanted) in [
+        ([stop, stop, None, None], [Some(1), Some(1)]),
+        ([stop, broken, stop, None], [None, Some(1)]),
+        ([broken, broken, stop, None], [None, None]),
+        ([None, stop, stop, stop], [Some(1), Some(1)]),
+    ] {
+        let listed = Vec::from_slice(rt.alloc(), errors.as_slice())?;
+        let mut source = StdSource::new(Fitful {
+            errors: listed,
+            calls: 0,
+        });
+        let listed = Vec::from_slice(rt.alloc(), errors.as_slice())?;
+        let mut sink = StdSink::new(Fitful {
+            errors: listed,
+            calls: 0,
+        });
+        for count in wanted {
+            let mut buf = [0u8; 4];
+            assert_eq!(rt; source.read(&mut buf).ok(), count);
+            assert_eq!(rt; sink.write(b"abcd").ok(), count);
+        }
+    }
     Ok(())
 }
