@@ -6,3 +6,4 @@ pub mod ShortNames
 pub mod Readable
 pub mod Lines
 pub mod Summaries
+pub mod Writings

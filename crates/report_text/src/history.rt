@@ -1,9 +1,7 @@
 //! The board's history, to a sink.
-ghost use Rattle.std.specs.Prelude.{◌≡◌, ◌+◌, ◌≤◌, ◌<◌, ◌++◌, length, OnOk, OnErr};
+ghost use Rattle.std.specs.Prelude.{◌≡◌, ◌+◌, ◌≤◌, ◌<◌, ◌++◌, length};
 ghost use Rattle.std.specs.List.{All};
-ghost use Rattle.std.specs.Io.KnownBytes.{Appends};
-ghost use Rattle.cord_port.specs.Causes.{Rose};
-ghost use Rattle.cord_port.specs.Texts.{AppendsPart};
+ghost use Rattle.report_text.specs.Writings.{Wrote};
 ghost use Rattle.report_text.specs.Replies.{line_of};
 ghost use Rattle.report_text.specs.Histories.{act_word, length_text, lengths_text, entry_text, name_at, entry_line, count_line, entry_lines, history_text};
 ghost use Rattle.report_text.specs.Outputs.{IsProperEntry};
@@ -77,11 +75,7 @@ fn write_entry<K: Sink>(
 ) -> Result<(), Failed>
     requires names { All (λ session. length session.name ≤ 16) sessions.now }
     requires session { entry.now.session < length sessions.now }
-    ensures whole { OnOk result (Appends (K.held sink.old) (K.held sink.new) (entry_line sessions.now entry.now)) }
-    ensures kept { OnOk result (K.faults sink.new ≡ K.faults sink.old) }
-    ensures part { AppendsPart (K.held sink.old) (K.held sink.new) (entry_line sessions.now entry.now) }
-    ensures cause { OnErr result (Rose (K.faults sink.old) (K.faults sink.new)) }
-    ensures later { K.faults sink.old ≤ K.faults sink.new }
+    ensures { Wrote (K.held sink.old) (K.held sink.new) (K.faults sink.old) (K.faults sink.new) result (entry_line sessions.now entry.now) }
 {
     line.clear();
     push_entry(
@@ -100,11 +94,7 @@ fn write_entries<K: Sink>(
 ) -> Result<(), Failed>
     requires names { All (λ session. length session.name ≤ 16) sessions.now }
     requires history { All (IsProperEntry (length sessions.now)) history.now }
-    ensures whole { OnOk result (Appends (K.held sink.old) (K.held sink.new) (entry_lines sessions.now history.now)) }
-    ensures kept { OnOk result (K.faults sink.new ≡ K.faults sink.old) }
-    ensures part { AppendsPart (K.held sink.old) (K.held sink.new) (entry_lines sessions.now history.now) }
-    ensures cause { OnErr result (Rose (K.faults sink.old) (K.faults sink.new)) }
-    ensures later { K.faults sink.old ≤ K.faults sink.new }
+    ensures { Wrote (K.held sink.old) (K.held sink.new) (K.faults sink.old) (K.faults sink.new) result (entry_lines sessions.now history.now) }
 {
     for entry in history {
         write_entry(line, sessions, entry, sink)?;
@@ -113,11 +103,7 @@ fn write_entries<K: Sink>(
 }
 
 fn write_count<K: Sink>(line: &mut Line, count: u64, sink: &mut K) -> Result<(), Failed>
-    ensures whole { OnOk result (Appends (K.held sink.old) (K.held sink.new) (count_line count)) }
-    ensures kept { OnOk result (K.faults sink.new ≡ K.faults sink.old) }
-    ensures part { AppendsPart (K.held sink.old) (K.held sink.new) (count_line count) }
-    ensures cause { OnErr result (Rose (K.faults sink.old) (K.faults sink.new)) }
-    ensures later { K.faults sink.old ≤ K.faults sink.new }
+    ensures { Wrote (K.held sink.old) (K.held sink.new) (K.faults sink.old) (K.faults sink.new) result (count_line count) }
 {
     line.clear();
     line.push_text(b"history ");
@@ -134,11 +120,7 @@ pub fn write_history<K: Sink>(
 ) -> Result<(), Failed>
     requires names { All (λ session. length session.name ≤ 16) sessions.now }
     requires history { All (IsProperEntry (length sessions.now)) history.now }
-    ensures whole { OnOk result (Appends (K.held sink.old) (K.held sink.new) (history_text sessions.now history.now)) }
-    ensures kept { OnOk result (K.faults sink.new ≡ K.faults sink.old) }
-    ensures part { AppendsPart (K.held sink.old) (K.held sink.new) (history_text sessions.now history.now) }
-    ensures cause { OnErr result (Rose (K.faults sink.old) (K.faults sink.new)) }
-    ensures later { K.faults sink.old ≤ K.faults sink.new }
+    ensures { Wrote (K.held sink.old) (K.held sink.new) (K.faults sink.old) (K.faults sink.new) result (history_text sessions.now history.now) }
 {
     write_count(line, history.len() as u64, sink)?;
     write_entries(line, sessions, history, sink)

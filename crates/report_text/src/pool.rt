@@ -1,8 +1,5 @@
 //! The line of the pool, to a sink.
-ghost use Rattle.std.specs.Prelude.{◌≡◌, ◌≤◌, OnOk, OnErr};
-ghost use Rattle.std.specs.Io.KnownBytes.{Appends};
-ghost use Rattle.cord_port.specs.Causes.{Rose};
-ghost use Rattle.cord_port.specs.Texts.{AppendsPart};
+ghost use Rattle.report_text.specs.Writings.{Wrote};
 ghost use Rattle.report_text.specs.Histories.{pool_line};
 
 use crate::line::Line;
@@ -16,11 +13,7 @@ pub fn write_pool<K: Sink>(
     pool: u32,
     sink: &mut K,
 ) -> Result<(), Failed>
-    ensures whole { OnOk result (Appends (K.held sink.old) (K.held sink.new) (pool_line left pool)) }
-    ensures kept { OnOk result (K.faults sink.new ≡ K.faults sink.old) }
-    ensures part { AppendsPart (K.held sink.old) (K.held sink.new) (pool_line left pool) }
-    ensures cause { OnErr result (Rose (K.faults sink.old) (K.faults sink.new)) }
-    ensures later { K.faults sink.old ≤ K.faults sink.new }
+    ensures { Wrote (K.held sink.old) (K.held sink.new) (K.faults sink.old) (K.faults sink.new) result (pool_line left pool) }
 {
     line.clear();
     line.push_text(b"pool ");

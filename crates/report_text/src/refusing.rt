@@ -1,8 +1,6 @@
 //! The line of a script that is refused, to a sink.
-ghost use Rattle.std.specs.Prelude.{◌≡◌, ◌≤◌, ◌<◌, length, OnOk, OnErr};
-ghost use Rattle.std.specs.Io.KnownBytes.{Appends};
-ghost use Rattle.cord_port.specs.Causes.{Rose};
-ghost use Rattle.cord_port.specs.Texts.{AppendsPart};
+ghost use Rattle.std.specs.Prelude.{◌≤◌, ◌<◌, length};
+ghost use Rattle.report_text.specs.Writings.{Wrote};
 ghost use Rattle.report_text.specs.Outputs.{refusal_line};
 
 use crate::line::Line;
@@ -12,11 +10,7 @@ use cord_port::{Failed, Sink};
 /// Writes in which line of the script its first fault is, and the word for its cause.
 pub fn write_refusal<K: Sink>(number: u32, word: &[u8], sink: &mut K) -> Result<(), Failed>
     requires { length word.now ≤ 16 }
-    ensures whole { OnOk result (Appends (K.held sink.old) (K.held sink.new) (refusal_line number word.now)) }
-    ensures kept { OnOk result (K.faults sink.new ≡ K.faults sink.old) }
-    ensures part { AppendsPart (K.held sink.old) (K.held sink.new) (refusal_line number word.now) }
-    ensures cause { OnErr result (Rose (K.faults sink.old) (K.faults sink.new)) }
-    ensures later { K.faults sink.old ≤ K.faults sink.new }
+    ensures { Wrote (K.held sink.old) (K.held sink.new) (K.faults sink.old) (K.faults sink.new) result (refusal_line number word.now) }
 {
     let mut line = Line::new();
     line.push_text(b"refused at line ");

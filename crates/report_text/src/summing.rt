@@ -1,8 +1,5 @@
 //! The line of a script that is well formed, to a sink.
-ghost use Rattle.std.specs.Prelude.{◌≡◌, ◌≤◌, OnOk, OnErr};
-ghost use Rattle.std.specs.Io.KnownBytes.{Appends};
-ghost use Rattle.cord_port.specs.Causes.{Rose};
-ghost use Rattle.cord_port.specs.Texts.{AppendsPart};
+ghost use Rattle.report_text.specs.Writings.{Wrote};
 ghost use Rattle.report_text.specs.Summaries.{summary_line};
 
 use crate::line::Line;
@@ -11,11 +8,7 @@ use cord_port::{Failed, Sink};
 
 /// Writes how many sessions a script has, and how many commands in all.
 pub fn write_summary<K: Sink>(sessions: u64, commands: u64, sink: &mut K) -> Result<(), Failed>
-    ensures whole { OnOk result (Appends (K.held sink.old) (K.held sink.new) (summary_line sessions commands)) }
-    ensures kept { OnOk result (K.faults sink.new ≡ K.faults sink.old) }
-    ensures part { AppendsPart (K.held sink.old) (K.held sink.new) (summary_line sessions commands) }
-    ensures cause { OnErr result (Rose (K.faults sink.old) (K.faults sink.new)) }
-    ensures later { K.faults sink.old ≤ K.faults sink.new }
+    ensures { Wrote (K.held sink.old) (K.held sink.new) (K.faults sink.old) (K.faults sink.new) result (summary_line sessions commands) }
 {
     let mut line = Line::new();
     line.push_text(b"ok ");

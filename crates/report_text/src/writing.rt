@@ -1,9 +1,7 @@
 //! A run, to a sink: its books, its history and its pool.
-ghost use Rattle.std.specs.Prelude.{◌≡◌, ◌≤◌, ◌<◌, ◌∷◌, [], length, OnOk, OnErr};
+ghost use Rattle.std.specs.Prelude.{◌≡◌, ◌≤◌, ◌<◌, ◌∷◌, [], length};
 ghost use Rattle.std.specs.List.{All};
-ghost use Rattle.std.specs.Io.KnownBytes.{Appends};
-ghost use Rattle.cord_port.specs.Causes.{Rose};
-ghost use Rattle.cord_port.specs.Texts.{AppendsPart};
+ghost use Rattle.report_text.specs.Writings.{Wrote};
 ghost use Rattle.report_text.specs.Replies.{line_of, IsShortReply};
 ghost use Rattle.report_text.specs.Outputs.{session_line, reply_line, reply_lines, session_text, books_text, output_text, IsPrintable};
 ghost use Rattle.report_text.specs.Lines.{line_bytes, line_length};
@@ -18,11 +16,7 @@ use plain_cord::{Book, Entry, Reply, Script, Session};
 /// Ends the line and hands it to the sink.
 pub fn write_line<K: Sink>(line: &mut Line, sink: &mut K) -> Result<(), Failed>
     requires { line_length line.old < LINE }
-    ensures whole { OnOk result (Appends (K.held sink.old) (K.held sink.new) (line_of (line_bytes line.old))) }
-    ensures kept { OnOk result (K.faults sink.new ≡ K.faults sink.old) }
-    ensures part { AppendsPart (K.held sink.old) (K.held sink.new) (line_of (line_bytes line.old)) }
-    ensures cause { OnErr result (Rose (K.faults sink.old) (K.faults sink.new)) }
-    ensures later { K.faults sink.old ≤ K.faults sink.new }
+    ensures { Wrote (K.held sink.old) (K.held sink.new) (K.faults sink.old) (K.faults sink.new) result (line_of (line_bytes line.old)) }
 {
     line.push(b'\n');
     write_all(sink, line.as_slice())
@@ -30,11 +24,7 @@ pub fn write_line<K: Sink>(line: &mut Line, sink: &mut K) -> Result<(), Failed>
 
 fn write_session_line<K: Sink>(line: &mut Line, name: &[u8], sink: &mut K) -> Result<(), Failed>
     requires { length name.now ≤ 16 }
-    ensures whole { OnOk result (Appends (K.held sink.old) (K.held sink.new) (session_line name.now)) }
-    ensures kept { OnOk result (K.faults sink.new ≡ K.faults sink.old) }
-    ensures part { AppendsPart (K.held sink.old) (K.held sink.new) (session_line name.now) }
-    ensures cause { OnErr result (Rose (K.faults sink.old) (K.faults sink.new)) }
-    ensures later { K.faults sink.old ≤ K.faults sink.new }
+    ensures { Wrote (K.held sink.old) (K.held sink.new) (K.faults sink.old) (K.faults sink.new) result (session_line name.now) }
 {
     line.clear();
     line.push_text(b"session ");
@@ -44,11 +34,7 @@ fn write_session_line<K: Sink>(line: &mut Line, name: &[u8], sink: &mut K) -> Re
 
 fn write_reply<K: Sink>(line: &mut Line, reply: &Reply, sink: &mut K) -> Result<(), Failed>
     requires { IsShortReply reply.now }
-    ensures whole { OnOk result (Appends (K.held sink.old) (K.held sink.new) (reply_line reply.now)) }
-    ensures kept { OnOk result (K.faults sink.new ≡ K.faults sink.old) }
-    ensures part { AppendsPart (K.held sink.old) (K.held sink.new) (reply_line reply.now) }
-    ensures cause { OnErr result (Rose (K.faults sink.old) (K.faults sink.new)) }
-    ensures later { K.faults sink.old ≤ K.faults sink.new }
+    ensures { Wrote (K.held sink.old) (K.held sink.new) (K.faults sink.old) (K.faults sink.new) result (reply_line reply.now) }
 {
     line.clear();
     push_reply(line, reply);
@@ -57,11 +43,7 @@ fn write_reply<K: Sink>(line: &mut Line, reply: &Reply, sink: &mut K) -> Result<
 
 fn write_replies<K: Sink>(line: &mut Line, replies: &[Reply], sink: &mut K) -> Result<(), Failed>
     requires { All IsShortReply replies.now }
-    ensures whole { OnOk result (Appends (K.held sink.old) (K.held sink.new) (reply_lines replies.now)) }
-    ensures kept { OnOk result (K.faults sink.new ≡ K.faults sink.old) }
-    ensures part { AppendsPart (K.held sink.old) (K.held sink.new) (reply_lines replies.now) }
-    ensures cause { OnErr result (Rose (K.faults sink.old) (K.faults sink.new)) }
-    ensures later { K.faults sink.old ≤ K.faults sink.new }
+    ensures { Wrote (K.held sink.old) (K.held sink.new) (K.faults sink.old) (K.faults sink.new) result (reply_lines replies.now) }
 {
     for reply in replies {
         write_reply(line, reply, sink)?;
@@ -77,11 +59,7 @@ fn write_session<K: Sink>(
 ) -> Result<(), Failed>
     requires name { length session.now.name ≤ 16 }
     requires short { All IsShortReply book.now.replies }
-    ensures whole { OnOk result (Appends (K.held sink.old) (K.held sink.new) (session_text (session.now, book.now))) }
-    ensures kept { OnOk result (K.faults sink.new ≡ K.faults sink.old) }
-    ensures part { AppendsPart (K.held sink.old) (K.held sink.new) (session_text (session.now, book.now)) }
-    ensures cause { OnErr result (Rose (K.faults sink.old) (K.faults sink.new)) }
-    ensures later { K.faults sink.old ≤ K.faults sink.new }
+    ensures { Wrote (K.held sink.old) (K.held sink.new) (K.faults sink.old) (K.faults sink.new) result (session_text (session.now, book.now)) }
 {
     write_session_line(line, session.name.as_slice(), sink)?;
     write_replies(line, book.replies.as_slice(), sink)
@@ -96,11 +74,7 @@ fn write_sessions<K: Sink>(
     requires paired { length books.now ≡ length sessions.now }
     requires names { All (λ session. length session.name ≤ 16) sessions.now }
     requires replies { All (λ book. All IsShortReply book.replies) books.now }
-    ensures whole { OnOk result (Appends (K.held sink.old) (K.held sink.new) (books_text sessions.now books.now)) }
-    ensures kept { OnOk result (K.faults sink.new ≡ K.faults sink.old) }
-    ensures part { AppendsPart (K.held sink.old) (K.held sink.new) (books_text sessions.now books.now) }
-    ensures cause { OnErr result (Rose (K.faults sink.old) (K.faults sink.new)) }
-    ensures later { K.faults sink.old ≤ K.faults sink.new }
+    ensures { Wrote (K.held sink.old) (K.held sink.new) (K.faults sink.old) (K.faults sink.new) result (books_text sessions.now books.now) }
 {
     for i in 0..books.len() {
         write_session(line, &sessions[i], &books[i], sink)?;
@@ -118,11 +92,7 @@ pub fn write_run<K: Sink>(
     sink: &mut K,
 ) -> Result<(), Failed>
     requires { IsPrintable script.now.sessions books.now history.now }
-    ensures whole { OnOk result (Appends (K.held sink.old) (K.held sink.new) (output_text script.now.sessions books.now history.now left script.now.pool)) }
-    ensures kept { OnOk result (K.faults sink.new ≡ K.faults sink.old) }
-    ensures part { AppendsPart (K.held sink.old) (K.held sink.new) (output_text script.now.sessions books.now history.now left script.now.pool) }
-    ensures cause { OnErr result (Rose (K.faults sink.old) (K.faults sink.new)) }
-    ensures later { K.faults sink.old ≤ K.faults sink.new }
+    ensures { Wrote (K.held sink.old) (K.held sink.new) (K.faults sink.old) (K.faults sink.new) result (output_text script.now.sessions books.now history.now left script.now.pool) }
 {
     let sessions = script.sessions.as_slice();
     let mut line = Line::new();
