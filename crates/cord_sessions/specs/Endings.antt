@@ -5,6 +5,7 @@ use Rattle.std.specs.Io.KnownBytes.{Appends, IsAtEnd}
 use Rattle.plain_cord.specs.declared.script.Script.{Script}
 use Rattle.plain_cord.specs.declared.reply.Book.{Book}
 use Rattle.plain_cord.specs.declared.history.Entry.{Entry}
+use Rattle.plain_cord.specs.declared.limits.TheConstants.{MOST_BYTES, MOST_SHOWN}
 use Rattle.plain_cord.specs.Runs.{IsPlainRun}
 use Rattle.cord_port.specs.Causes.{Rose}
 use Rattle.cord_port.specs.Texts.{Gave, AppendsPart}
@@ -58,6 +59,25 @@ pub record Outside : Type 0 where
   pub held_after : Option (List ℕ)
   pub write_faults : ℕ
   pub write_faults_after : ℕ
+
+-- what is seen of a source from its state before to that after, and of a sink
+abbrev pub outside : {S K : Type 0} → (S → Option (List ℕ)) → (S → ℕ) → (S → ℕ) → (K → Option (List ℕ)) → (K → ℕ) → S → S → K → K → Outside
+outside left given read_faults held write_faults source source_after sink sink_after = record {
+  left = left source;
+  left_after = left source_after;
+  given = given source;
+  given_after = given source_after;
+  read_faults = read_faults source;
+  read_faults_after = read_faults source_after;
+  held = held sink;
+  held_after = held sink_after;
+  write_faults = write_faults sink;
+  write_faults_after = write_faults sink_after;
+}
+
+-- the most bytes of a script, the most bytes of a cord, and the most bytes of a cord that an answer shows
+abbrev pub LimitsStand : Type 0
+LimitsStand = (MOST_SCRIPT ≡ 16777216) × (MOST_BYTES ≡ 2147483647) × (MOST_SHOWN ≡ 4096)
 
 -- the source was read to its end without a fault, and gave these bytes
 pub record IsRead (o : Outside) (bytes : List ℕ) : Type 0 where

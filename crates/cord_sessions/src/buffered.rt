@@ -3,7 +3,7 @@ ghost use Rattle.std.specs.Prelude.{◌≡◌, map, string_bytes};
 ghost use Rattle.cord_port.specs.Texts.{Extends};
 ghost use Rattle.cord_port.specs.Buffers.{sink_below, kept_bytes};
 ghost use Rattle.cord_sessions.specs.declared.ending.Ending.{Ending as Ending_value};
-ghost use Rattle.cord_sessions.specs.Endings.{Says, status_of};
+ghost use Rattle.cord_sessions.specs.Endings.{Says, LimitsStand, outside, status_of};
 ghost use Rattle.cord_sessions.specs.Emptying.{Empties};
 
 use crate::ending::{Ended, Ending};
@@ -32,8 +32,10 @@ pub fn run_buffered<R: Threads + Wait + Sync, S: Source, K: Sink + Drop, G: Gate
     gate: &G,
     releasers: Vec<Box<dyn Releaser + Send>>,
 ) -> Served<K>
-    ensures ending { (ending : Ending_value) × (result.finish.status ≡ status_of ending) × Says (map string_bytes words.now) (record { left = S.left source.old; left_after = S.left source.new; given = S.given source.old; given_after = S.given source.new; read_faults = S.faults source.old; read_faults_after = S.faults source.new; held = K.held sink; held_after = K.held result.sink; write_faults = K.faults sink; write_faults_after = K.faults result.sink }) ending }
+    ensures ending { (ending : Ending_value) × (result.finish.status ≡ status_of ending) × Says (map string_bytes words.now)
+        (outside S.left S.given S.faults K.held K.faults source.old source.new sink result.sink) ending }
     ensures returned { result.finish.returned ≡ releasers }
+    ensures limits { LimitsStand }
 {
     serve::<R, S, K, G, Brand>(rt, alloc, words, source, sink, gate, releasers)
 }
@@ -49,7 +51,8 @@ fn serve<R: Threads + Wait + Sync, S: Source, K: Sink + Drop, G: Gate + Sync, N:
     releasers: Vec<Box<dyn Releaser + Send>>,
 ) -> Served<K>
     requires begun { N.begun ≡ K.held sink }
-    ensures ending { (ending : Ending_value) × (result.finish.status ≡ status_of ending) × Says (map string_bytes words.now) (record { left = S.left source.old; left_after = S.left source.new; given = S.given source.old; given_after = S.given source.new; read_faults = S.faults source.old; read_faults_after = S.faults source.new; held = K.held sink; held_after = K.held result.sink; write_faults = K.faults sink; write_faults_after = K.faults result.sink }) ending }
+    ensures ending { (ending : Ending_value) × (result.finish.status ≡ status_of ending) × Says (map string_bytes words.now)
+        (outside S.left S.given S.faults K.held K.faults source.old source.new sink result.sink) ending }
     ensures returned { result.finish.returned ≡ releasers }
 {
     let made: Result<BufferedSink<K, N>, K> = BufferedSink::new(alloc, sink);

@@ -1,7 +1,7 @@
 //! The top call.
 ghost use Rattle.std.specs.Prelude.{◌≡◌, map, string_bytes};
 ghost use Rattle.cord_sessions.specs.declared.ending.Ending.{Ending as Ending_value};
-ghost use Rattle.cord_sessions.specs.Endings.{Says, SaysOf, Told, status_of};
+ghost use Rattle.cord_sessions.specs.Endings.{Says, SaysOf, Told, LimitsStand, outside, status_of};
 ghost use Rattle.cord_sessions.specs.Parts.{TellsUnread};
 ghost use Rattle.cord_sessions.specs.declared.asked.Asked.TheVariants.{Run, Check};
 
@@ -52,7 +52,8 @@ fn run_to_end<R: Threads + Wait + Sync, S: Source, K: Sink, G: Gate + Sync>(
     gate: &G,
     releasers: Vec<Box<dyn Releaser + Send>>,
 ) -> Ended
-    ensures says { SaysOf Run (record { left = S.left source.old; left_after = S.left source.new; given = S.given source.old; given_after = S.given source.new; read_faults = S.faults source.old; read_faults_after = S.faults source.new; held = K.held sink.old; held_after = K.held sink.new; write_faults = K.faults sink.old; write_faults_after = K.faults sink.new }) result.ending }
+    ensures says { SaysOf Run
+        (outside S.left S.given S.faults K.held K.faults source.old source.new sink.old sink.new) result.ending }
     ensures returned { result.returned ≡ releasers }
 {
     match read_all(alloc, source, MOST_SCRIPT) {
@@ -65,7 +66,8 @@ fn run_to_end<R: Threads + Wait + Sync, S: Source, K: Sink, G: Gate + Sync>(
 }
 
 fn check_to_end<S: Source, K: Sink>(alloc: Global, source: &mut S, sink: &mut K) -> Ending
-    ensures { SaysOf Check (record { left = S.left source.old; left_after = S.left source.new; given = S.given source.old; given_after = S.given source.new; read_faults = S.faults source.old; read_faults_after = S.faults source.new; held = K.held sink.old; held_after = K.held sink.new; write_faults = K.faults sink.old; write_faults_after = K.faults sink.new }) result }
+    ensures { SaysOf Check
+        (outside S.left S.given S.faults K.held K.faults source.old source.new sink.old sink.new) result }
 {
     match read_all(alloc, source, MOST_SCRIPT) {
         Ok(bytes) => check_bytes(alloc, &bytes, sink),
@@ -75,7 +77,8 @@ fn check_to_end<S: Source, K: Sink>(alloc: Global, source: &mut S, sink: &mut K)
 
 /// Tells whether the bytes of the source are a script: its answer is the exit status.
 pub fn check_script<S: Source, K: Sink>(alloc: Global, source: &mut S, sink: &mut K) -> u8
-    ensures { (ending : Ending_value) × (result ≡ status_of ending) × SaysOf Check (record { left = S.left source.old; left_after = S.left source.new; given = S.given source.old; given_after = S.given source.new; read_faults = S.faults source.old; read_faults_after = S.faults source.new; held = K.held sink.old; held_after = K.held sink.new; write_faults = K.faults sink.old; write_faults_after = K.faults sink.new }) ending }
+    ensures { (ending : Ending_value) × (result ≡ status_of ending) × SaysOf Check
+        (outside S.left S.given S.faults K.held K.faults source.old source.new sink.old sink.new) ending }
 {
     check_to_end(alloc, source, sink).status()
 }
@@ -90,7 +93,8 @@ pub fn do_asked<R: Threads + Wait + Sync, S: Source, K: Sink, G: Gate + Sync>(
     gate: &G,
     releasers: Vec<Box<dyn Releaser + Send>>,
 ) -> Ended
-    ensures says { Says (map string_bytes words.now) (record { left = S.left source.old; left_after = S.left source.new; given = S.given source.old; given_after = S.given source.new; read_faults = S.faults source.old; read_faults_after = S.faults source.new; held = K.held sink.old; held_after = K.held sink.new; write_faults = K.faults sink.old; write_faults_after = K.faults sink.new }) result.ending }
+    ensures says { Says (map string_bytes words.now)
+        (outside S.left S.given S.faults K.held K.faults source.old source.new sink.old sink.new) result.ending }
     ensures returned { result.returned ≡ releasers }
 {
     match command_of(words) {
@@ -123,8 +127,10 @@ pub fn run_program<R: Threads + Wait + Sync, S: Source, K: Sink, G: Gate + Sync>
     gate: &G,
     releasers: Vec<Box<dyn Releaser + Send>>,
 ) -> Finish
-    ensures ending { (ending : Ending_value) × (result.status ≡ status_of ending) × Says (map string_bytes words.now) (record { left = S.left source.old; left_after = S.left source.new; given = S.given source.old; given_after = S.given source.new; read_faults = S.faults source.old; read_faults_after = S.faults source.new; held = K.held sink.old; held_after = K.held sink.new; write_faults = K.faults sink.old; write_faults_after = K.faults sink.new }) ending }
+    ensures ending { (ending : Ending_value) × (result.status ≡ status_of ending) × Says (map string_bytes words.now)
+        (outside S.left S.given S.faults K.held K.faults source.old source.new sink.old sink.new) ending }
     ensures returned { result.returned ≡ releasers }
+    ensures limits { LimitsStand }
 {
     let Ended { ending, returned } = do_asked(rt, alloc, words, source, sink, gate, releasers);
     Finish {

@@ -3,7 +3,7 @@ use Rattle.std.proofs.Common.{map, string_bytes, ap, ◌∙◌, subst, Option, L
 use Rattle.std.specs.Io.KnownBytes.{append_known}
 use Rattle.cord_port.specs.Texts.{Extends}
 use Rattle.cord_port.specs.Buffers.{sink_below, kept_bytes}
-use Rattle.cord_sessions.specs.Endings.{Outside, Says}
+use Rattle.cord_sessions.specs.Endings.{Outside, Says, outside}
 use Rattle.cord_sessions.proofs.Through.{buffered, says-through}
 use Rattle.cord_sessions.proofs.buffered.serve.Goals as goal
 
@@ -17,18 +17,7 @@ returns-in-Ok-clause-ending g c =
     let below = held (sink_below after) in
     let words = map string_bytes c.args.words.now in
     let ending = c.do_asked-ending.result.ending in
-    let o : Outside = record {
-      left = g.S.Source.left c.args.source.now;
-      left_after = g.S.Source.left c.do_asked-ending.new.source;
-      given = g.S.Source.given c.args.source.now;
-      given_after = g.S.Source.given c.do_asked-ending.new.source;
-      read_faults = g.S.Source.faults c.args.source.now;
-      read_faults_after = g.S.Source.faults c.do_asked-ending.new.source;
-      held = held c.args.sink;
-      held_after = held c.empty_buffer-ending.result.sink;
-      write_faults = faults c.args.sink;
-      write_faults_after = faults c.empty_buffer-ending.result.sink;
-    } in
+    let o : Outside = outside g.S.Source.left g.S.Source.given g.S.Source.faults held faults c.args.source.now c.do_asked-ending.new.source c.args.sink c.empty_buffer-ending.result.sink in
     let seen : Outside = buffered o kept below (faults (sink_below after)) in
     let began = ap (λ s. append_known (held s) (kept_bytes made)) c.in-Ok.ensures.below ∙ ap (λ (bytes : List ℕ). append_known (held c.args.sink) bytes) c.in-Ok.ensures.kept in
     let counted = ap (λ s. faults s) c.in-Ok.ensures.below in
