@@ -52,7 +52,8 @@ impl<K: Sink + Drop, N: Begun> BufferedSink<K, N> {
     pub fn flush(&mut self) -> Result<(), Failed>
         ensures whole { OnOk result (Appends (K.held (sink_below self.old)) (K.held (sink_below self.new)) (kept_bytes self.old)) }
         ensures part { AppendsPart (K.held (sink_below self.old)) (K.held (sink_below self.new)) (kept_bytes self.old) }
-        ensures joined { Keeps (append_known (K.held (sink_below self.old)) (kept_bytes self.old)) (append_known (K.held (sink_below self.new)) (kept_bytes self.new)) }
+        ensures joined { Keeps (append_known (K.held (sink_below self.old)) (kept_bytes self.old))
+            (append_known (K.held (sink_below self.new)) (kept_bytes self.new)) }
         ensures empty { OnOk result ((kept_bytes self.new ≡ []) × (kept_room self.new ≡ 65536)) }
         ensures kept { OnOk result (K.faults (sink_below self.new) ≡ K.faults (sink_below self.old)) }
         ensures cause { OnErr result (Rose (K.faults (sink_below self.old)) (K.faults (sink_below self.new))) }
@@ -89,11 +90,14 @@ impl<K: Sink + Drop, N: Begun> Sink for BufferedSink<K, N> {
 
     fn write(&mut self, bytes: &[u8]) -> Result<usize, Failed>
         ensures bound { WritesAtMost result bytes.now }
-        ensures bytes { WriteAppends (append_known (K.held (sink_below self.old)) (kept_bytes self.old)) (append_known (K.held (sink_below self.new)) (kept_bytes self.new)) result bytes.now }
+        ensures bytes { WriteAppends
+            (append_known (K.held (sink_below self.old)) (kept_bytes self.old))
+            (append_known (K.held (sink_below self.new)) (kept_bytes self.new)) result bytes.now }
         ensures cause { WriteCause (K.faults (sink_below self.old)) (K.faults (sink_below self.new)) result bytes.now }
         // The sink below is written to only where 65,536 bytes came together.
         ensures waits { 0 < kept_room self.old → (sink_below self.new ≡ sink_below self.old) × IsOk result }
-        ensures fits { 0 < kept_room self.old → IfOk result (λ n. (n ≡ min (length bytes.now) (kept_room self.old)) × (kept_room self.new ≡ kept_room self.old - n)) }
+        ensures fits { 0 < kept_room self.old → IfOk result (λ n. (n ≡ min (length bytes.now) (kept_room self.old))
+            × (kept_room self.new ≡ kept_room self.old - n)) }
         ensures full { kept_room self.old ≡ 0 → IfOk result (λ n. (n ≡ min (length bytes.now) 65536) × (kept_room self.new ≡ 65536 - n)) }
     {
         if self.bytes.len() == BUFFER {

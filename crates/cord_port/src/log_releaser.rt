@@ -1,5 +1,6 @@
 //! A releaser that keeps the lengths, for tests.
-ghost use Rattle.std.specs.Prelude.{◌≡◌, ◌+◌, ◌-◌, ◌^◌, ◌<◌, ◌≤◌, ◌++◌, ◌∷◌, [], None, Some, vec_len, vec_capacity, min, take, length, IfOk};
+ghost use Rattle.std.specs.Prelude.{◌≡◌, ◌+◌, ◌-◌, ◌^◌, ◌<◌, ◌≤◌, ◌++◌, ◌∷◌};
+ghost use Rattle.std.specs.Prelude.{[], None, Some, vec_len, vec_capacity, min, take, length, IfOk};
 
 use crate::{Memory, Releaser};
 use std::alloc::Global;

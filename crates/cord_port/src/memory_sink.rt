@@ -1,5 +1,6 @@
 //! A sink into memory, for tests.
-ghost use Rattle.std.specs.Prelude.{◌≡◌, ◌≤◌, ◌<◌, ◌-◌, ◌↔◌, ◌⊎◌, vec_len, vec_capacity, Some, [], length, min, Contains, IsErr, OnErr, IfOk};
+ghost use Rattle.std.specs.Prelude.{◌≡◌, ◌≤◌, ◌<◌, ◌-◌, ◌↔◌, ◌⊎◌};
+ghost use Rattle.std.specs.Prelude.{vec_len, vec_capacity, Some, [], length, min, Contains, IsErr, OnErr, IfOk};
 ghost use Rattle.std.specs.Io.{WritesAtMost};
 ghost use Rattle.std.specs.Io.KnownBytes.{WriteAppends};
 ghost use Rattle.cord_port.specs.Causes.{WriteCause};

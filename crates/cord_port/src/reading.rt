@@ -57,7 +57,8 @@ fn read_piece<S: Source>(
 ) -> Result<usize, ReadRefused>
     requires some { 0 < most }
     requires room { length bytes.old.items + most < 2 ^ 63 }
-    ensures more { IfOk result (λ n. (more : List ℕ) × (bytes.new.items ≡ bytes.old.items ++ more) × (length more ≡ n) × (n ≤ most) × Gave (S.left source.old) (S.left source.new) (S.given source.old) (S.given source.new) more) }
+    ensures more { IfOk result (λ n. (more : List ℕ) × (bytes.new.items ≡ bytes.old.items ++ more) × (length more ≡ n)
+        × (n ≤ most) × Gave (S.left source.old) (S.left source.new) (S.given source.old) (S.given source.new) more) }
     ensures end { IfOk result (λ n. n ≡ 0 → IsAtEnd (S.left source.new)) }
     ensures none { OnErr result (Gave (S.left source.old) (S.left source.new) (S.given source.old) (S.given source.new) []) }
     ensures fault { result ≡ Err Fault → Rose (S.faults source.old) (S.faults source.new) }

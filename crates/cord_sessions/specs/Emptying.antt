@@ -26,7 +26,8 @@ IsLeft held faults held_after faults_after = (held_after ≡ held) × (faults_af
 -- a run that was done is so still, or the sink failed; a line changes no ending; and where the sink failed or memory ran
 -- out before, nothing more is written
 abbrev pub Empties : Ending → List ℕ → Option (List ℕ) → ℕ → Ending → Option (List ℕ) → ℕ → Type 0
-Empties Done rest held faults ending held_after faults_after = IsEmptied rest held faults ending held_after faults_after ⊎ IsUnemptied rest held faults ending held_after faults_after
+Empties Done rest held faults ending held_after faults_after =
+    IsEmptied rest held faults ending held_after faults_after ⊎ IsUnemptied rest held faults ending held_after faults_after
 Empties Memory rest held faults ending held_after faults_after = (ending ≡ Memory) × IsLeft held faults held_after faults_after
 Empties WriteFault rest held faults ending held_after faults_after = (ending ≡ WriteFault) × IsLeft held faults held_after faults_after
 Empties Refused rest held faults ending held_after faults_after = (ending ≡ Refused) × Told held held_after faults faults_after rest

@@ -100,7 +100,8 @@ fn empty_buffer<K: Sink + Drop, N: Begun>(
     mut buffered: BufferedSink<K, N>,
 ) -> Emptied<K>
     ensures begun { Extends N.begun (K.held (sink_below buffered)) }
-    ensures empties { Empties ending (kept_bytes buffered) (K.held (sink_below buffered)) (K.faults (sink_below buffered)) result.ending (K.held result.sink) (K.faults result.sink) }
+    ensures empties { Empties ending (kept_bytes buffered) (K.held (sink_below buffered)) (K.faults (sink_below buffered))
+        result.ending (K.held result.sink) (K.faults result.sink) }
 {
     let ending = match ending {
         Ending::Memory => Ending::Memory,

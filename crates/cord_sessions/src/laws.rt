@@ -22,9 +22,14 @@ pub fn scripts_are_done()
 /// The usage line comes exactly where the words are no command, and `script too long` exactly where one byte more than
 /// the limit was read.
 pub fn statuses_are_exact()
-    ensures usage { (words : List (List ℕ)) (o : Outside) (ending : Ending_value) → Says words o ending → (ending ≡ Usage) ↔ ((command : Asked_value) → ¬ (Asks words command)) }
-    ensures long { (words : List (List ℕ)) (o : Outside) (ending : Ending_value) → Says words o ending → (ending ≡ TooLong) ↔ (o.given_after ≡ o.given + (MOST_SCRIPT + 1)) }
+    ensures usage { (words : List (List ℕ)) (o : Outside) (ending : Ending_value) → Says words o ending
+        → (ending ≡ Usage) ↔ ((command : Asked_value) → ¬ (Asks words command)) }
+    ensures long { (words : List (List ℕ)) (o : Outside) (ending : Ending_value) → Says words o ending
+        → (ending ≡ TooLong) ↔ (o.given_after ≡ o.given + (MOST_SCRIPT + 1)) }
     // Bytes that are read to the end and are no script are refused, and no other bytes are.
-    ensures refused { (command : Asked_value) (o : Outside) (bytes : List ℕ) → SaysOf command o Refused → o.left ≡ Some bytes → (script : Script_value) → Spells bytes script → ⊥ }
-    ensures no_script { (command : Asked_value) (o : Outside) (ending : Ending_value) (bytes : List ℕ) → SaysOf command o ending → o.left ≡ Some bytes → ((script : Script_value) → Spells bytes script → ⊥) → (ending ≢ Done) × (ending ≢ WriteFault) }
+    ensures refused { (command : Asked_value) (o : Outside) (bytes : List ℕ) → SaysOf command o Refused → o.left ≡ Some bytes
+        → (script : Script_value) → Spells bytes script → ⊥ }
+    ensures no_script { (command : Asked_value) (o : Outside) (ending : Ending_value) (bytes : List ℕ) → SaysOf command o ending
+        → o.left ≡ Some bytes → ((script : Script_value) → Spells bytes script → ⊥)
+        → (ending ≢ Done) × (ending ≢ WriteFault) }
 {}

@@ -78,9 +78,13 @@ pub fn run_bytes<R: Threads + Wait + Sync, K: Sink, G: Gate + Sync>(
 // The text of a run.
 fn write_out<K: Sink>(script: &Script, run: &Run, sink: &mut K) -> Ending
     requires { IsPrintable script.now.sessions run.now.books.items run.now.history.items }
-    ensures done { result ≡ Ending.Done → Appends (K.held sink.old) (K.held sink.new) (output_text script.now.sessions run.now.books.items run.now.history.items run.now.numbers_left script.now.pool) × (K.faults sink.new ≡ K.faults sink.old) }
+    ensures done { result ≡ Ending.Done → Appends (K.held sink.old) (K.held sink.new)
+        (output_text script.now.sessions run.now.books.items run.now.history.items run.now.numbers_left script.now.pool)
+        × (K.faults sink.new ≡ K.faults sink.old) }
     ensures ending { (result ≡ Ending.Done) ⊎ (result ≡ Ending.WriteFault) }
-    ensures failed { result ≡ Ending.WriteFault → Rose (K.faults sink.old) (K.faults sink.new) × AppendsPart (K.held sink.old) (K.held sink.new) (output_text script.now.sessions run.now.books.items run.now.history.items run.now.numbers_left script.now.pool) }
+    ensures failed { result ≡ Ending.WriteFault → Rose (K.faults sink.old) (K.faults sink.new)
+        × AppendsPart (K.held sink.old) (K.held sink.new)
+        (output_text script.now.sessions run.now.books.items run.now.history.items run.now.numbers_left script.now.pool) }
 {
     match write_run(script, &run.books, &run.history, run.numbers_left, sink) {
         Ok(()) => Ending::Done,

@@ -31,9 +31,11 @@ module _ (a b c : Option (List ℕ)) (f g h : ℕ) where
       on_ok : (r : Result A E) → OnOk r (Appends b c ys) → OnOk r (Appends a c text)
       on_ok (Ok u) p = subst (λ (z : List ℕ). Appends a c z) (sym same) (appends_more a b c xs ys before p)
       on_ok (Err e) p = tt
+
       all_kept : (r : Result A E) → OnOk r (h ≡ g) → OnOk r (h ≡ f)
       all_kept (Ok u) p = p ∙ none
       all_kept (Err e) p = tt
+
       on_err : (r : Result A E) → OnErr r (Rose g h) → OnErr r (Rose f h)
       on_err (Ok u) p = tt
       on_err (Err e) p = subst (λ (n : ℕ). Rose n h) none p

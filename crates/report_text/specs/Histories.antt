@@ -25,7 +25,9 @@ lengths_text came was = codes "ok" ++ length_text came ++ length_text was
 
 -- an action of the session of this name
 abbrev pub entry_text : List ℕ → Entry → List ℕ
-entry_text name entry = name ++ codes " " ++ decimal entry.place ++ codes " " ++ act_word entry.act ++ codes " " ++ decimal entry.cell ++ codes " " ++ lengths_text entry.came entry.was
+entry_text name entry =
+    name ++ codes " " ++ decimal entry.place ++ codes " " ++ act_word entry.act ++ codes " "
+    ++ decimal entry.cell ++ codes " " ++ lengths_text entry.came entry.was
 
 -- the name of the session of this number
 abbrev pub name_at : List Session → ℕ → List ℕ

@@ -12,7 +12,9 @@ hex_escape b = 92 ∷ 120 ∷ hex_digit (b / 16) ∷ hex_digit (b % 16) ∷ []
 
 -- a byte within quotes: the quote, the backslash and the newline by `\"`, `\\` and `\n`, what is printable as it is
 abbrev pub quoted_byte : ℕ → List ℕ
-quoted_byte b = if b == 34 then 92 ∷ 34 ∷ [] else (if b == 92 then 92 ∷ 92 ∷ [] else (if b == 10 then 92 ∷ 110 ∷ [] else (if nat_le 32 b && nat_le b 126 then b ∷ [] else hex_escape b)))
+quoted_byte b =
+    if b == 34 then 92 ∷ 34 ∷ [] else (if b == 92 then 92 ∷ 92 ∷ [] else (if b == 10 then 92 ∷ 110 ∷ []
+    else (if nat_le 32 b && nat_le b 126 then b ∷ [] else hex_escape b)))
 
 abbrev pub quoted_bytes : List ℕ → List ℕ
 quoted_bytes bytes = flat_map quoted_byte bytes

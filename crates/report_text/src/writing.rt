@@ -92,7 +92,8 @@ pub fn write_run<K: Sink>(
     sink: &mut K,
 ) -> Result<(), Failed>
     requires { IsPrintable script.now.sessions books.now history.now }
-    ensures { Wrote (K.held sink.old) (K.held sink.new) (K.faults sink.old) (K.faults sink.new) result (output_text script.now.sessions books.now history.now left script.now.pool) }
+    ensures { Wrote (K.held sink.old) (K.held sink.new) (K.faults sink.old) (K.faults sink.new) result
+        (output_text script.now.sessions books.now history.now left script.now.pool) }
 {
     let sessions = script.sessions.as_slice();
     let mut line = Line::new();

@@ -42,5 +42,5 @@ loop-i-preserved g c =
 pub returns : goal.returns
 returns g c =
     let whole = subst (λ (parts : List (Session × Book)). Appends (g.K.Sink.held c.args.sink.now) (g.K.Sink.held c.loop-i.sink) (flat_map session_text parts))
-        (take-zip-all c.args.sessions.now c.args.books.now c.loop-i.i c.loop-i-test.false) c.loop-i.invariant.held in
+    (take-zip-all c.args.sessions.now c.args.books.now c.loop-i.i c.loop-i-test.false) c.loop-i.invariant.held in
     wrote_all _ _ _ _ (books_text c.args.sessions.now c.args.books.now) whole c.loop-i.invariant.faults
