@@ -82,6 +82,19 @@ deed_births (Unsnap w gone) p r q does n other = does.2.others n (λ e. other (e
 deed_births (Head answer) p r q does n other = ap (λ z. birth_of z n) does.1
 deed_births (Next s answer) p r q does n other = ap (λ z. birth_of z n) does.2
 
+-- how many walkers there are stays
+deed_walkers : (d : Deed) (p : TokenView) (r q : Contents) → Does d p r q → q.walkers ≡ r.walkers
+deed_walkers (Reserve s stamp) p r q does = does.2.walkers
+deed_walkers Full p r q does = ap (λ z. z.walkers) does
+deed_walkers (Free s) p r q does = does.1.walkers
+deed_walkers (Track s) p r q does = does.1.walkers
+deed_walkers (Unlink s) p r q does = does.1.walkers
+deed_walkers (Settle s answer) p r q does = does.1.walkers
+deed_walkers (Snap w) p r q does = does.3.walkers
+deed_walkers (Unsnap w gone) p r q does = does.2.walkers
+deed_walkers (Head answer) p r q does = ap (λ z. z.walkers) does.1
+deed_walkers (Next s answer) p r q does = ap (λ z. z.walkers) does.2
+
 -- the token's own walk
 pub deed_walk : (d : Deed) (p : TokenView) (r q : Contents) (h : History) → Replays h r → IsAnswer d h → Does d p r q → WalksIf (is_walking p.own) r h p.number (walk_of p.own)
     → WalksIf (walking_after d (is_walking p.own)) q (after_deed d h) p.number (walk_after d (walk_of p.own))
@@ -116,6 +129,7 @@ follows_entry g by p place d q rep logged ungiven k placed replays answer does =
   own = λ n less apart. other_entry n (entry_of p place d) g.log (λ e. apart (ap g.seat e ∙ k.seat));
   walk = λ n less apart walking slots w. walks_deed d g.registry q (history g.log) n walking slots (deed_births d p g.registry q does n (λ e. apart (ap g.seat e ∙ k.seat))) w;
   replays = replays;
+  walkers = deed_walkers d p g.registry q does;
   logged = (placed ∙ replays.clock, answer, logged);
   stamps = deed_stamps d (history g.log);
   ungiven = λ n over.

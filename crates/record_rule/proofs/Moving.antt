@@ -66,6 +66,7 @@ pub record Follows (g : Facts) (by : ℕ) (log : List LogEntry) (registry : Cont
   pub own : (n : ℕ) → n < g.given → g.seat n ≢ by → of_token n log ≡ of_token n g.log
   pub walk : (n : ℕ) → n < g.given → g.seat n ≢ by → (walking : Bool) (slots : List ℕ) → WalksIf walking g.registry (history g.log) n slots → WalksIf walking registry (history log) n slots
   pub replays : Replays (history log) registry
+  pub walkers : registry.walkers ≡ g.registry.walkers
   pub logged : IsLog log
   pub stamps : stamps_given (history g.log) ≤ stamps_given (history log)
   pub ungiven : (n : ℕ) → g.given ≤ n → (of_token n log ≡ []) × (birth_of registry n ≡ None)
@@ -139,6 +140,7 @@ module _ {S : Type 0} (tree_of : S → Node) (fits : S → Type 0) where
       → IsWorld tree_of fits (moved g by log registry s c stamp at lives list) values' (set views by (Some w))
   world_moved g values values' views by v w log registry s c stamp at lives list world seen follows first left others apart mine noted born grows fitting = record {
     first = first;
+    walkers = follows.walkers ∙ world.walkers;
     replays = follows.replays;
     log = follows.logged;
     room = (let total = all_left_set views by (Some v) (Some w) seen in let had = world.room in omega arith);

@@ -144,6 +144,7 @@ module _ {S : Type 0} (tree_of : S → Node) (fits : S → Type 0) where
             → IsToken g by p → Follows g by (entry_of p place d ∷ g.log) q → IsWorld tree_of fits (Next d q gone) (set values 0 (Lists q)) (set views by (Some (Token w)))
         whole w is k f = subst (λ (z : TokenView). IsWorld tree_of fits (Next d q gone) (set values 0 (Lists q)) (set views by (Some (Token z)))) (sym is) record {
           first = set_there values 0 _ _ a.world.first;
+          walkers = f.walkers ∙ a.world.walkers;
           replays = f.replays;
           log = f.logged;
           room = (let total = all_left_set views by (Some (Token p)) (Some (Token (record { number = p.number; own = entry_of p place d ∷ p.own; claims = nothing_left gone p.claims; reads = p.reads; untracked = p.untracked; shown = p.shown }))) a.seen in let had = a.world.room in let more = deed_room d p.own (history g.log) a.few in omega arith);
@@ -179,10 +180,10 @@ module _ {S : Type 0} (tree_of : S → Node) (fits : S → Type 0) where
     pub snaps : (w : ℕ) (q : Contents) → Doing tree_of fits g values views by p place (Snap w) q → Done tree_of fits values views by (Token (done place (Snap w) p)) q
     snaps w q a = sweeps (Snap w) q [] a (same_states q (λ t. a.does.3.states t)) (λ t. refl) refl
 
-    pub unsnaps : (w : ℕ) (gone : List ℕ) (q : Contents) → Doing tree_of fits g values views by p place (Unsnap w gone) q → Done tree_of fits values views by (Token (done place (Unsnap w gone) p)) q
-    unsnaps w gone q a = sweeps (Unsnap w gone) q gone a (record { waited = waited; others = λ t not. a.does.2.kept t not }) (λ t. refl) refl
+    pub unsnaps : (w : ℕ) (gone : _) (q : Contents) → Doing tree_of fits g values views by p place (Unsnap w gone) q → Done tree_of fits values views by (Token (done place (Unsnap w gone) p)) q
+    unsnaps w gone q a = sweeps (Unsnap w gone) q gone.items a (record { waited = waited; others = λ t not. a.does.2.kept t not }) (λ t. refl) refl
       where
-        waited : (t : ℕ) → has t gone ≡ true → (t < 256) × (state_of g.registry t ≡ Waits) × (state_of q t ≡ Clearing)
+        waited : (t : ℕ) → has t gone.items ≡ true → (t < 256) × (state_of g.registry t ≡ Waits) × (state_of q t ≡ Clearing)
         waited t is =
             let h : History = history g.log in
             let n = (a.answer t).0 is in

@@ -204,6 +204,7 @@ module _ {S : Type 0} (tree_of : S → Node) (fits : S → Type 0) where
       } in
       (seated g new, record {
         first = world.first;
+        walkers = world.walkers;
         replays = world.replays;
         log = world.log;
         room = omega arith;
@@ -249,6 +250,7 @@ module _ {S : Type 0} (tree_of : S → Node) (fits : S → Type 0) where
       } in
       (issued g s new, record {
         first = world.first;
+        walkers = world.walkers;
         replays = world.replays;
         log = world.log;
         room = omega arith;
@@ -284,6 +286,7 @@ module _ {S : Type 0} (tree_of : S → Node) (fits : S → Type 0) where
       let is = left in
       (joined g by other, record {
         first = world.first;
+        walkers = world.walkers;
         replays = world.replays;
         log = world.log;
         room = omega arith;

@@ -35,6 +35,7 @@ module _ {S : Type 0} (tree_of : S → Node) (fits : S → Type 0) where
     own = λ n less apart. refl;
     walk = λ n less apart walking slots w. w;
     replays = world.replays;
+    walkers = refl;
     logged = world.log;
     stamps = (let n : ℕ = Rattle.cordz_core.specs.History.stamps_given (history g.log) in omega arith);
     ungiven = world.ungiven;

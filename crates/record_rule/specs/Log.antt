@@ -37,7 +37,7 @@ IsAnswer (Track s) h = Unit {0}
 IsAnswer (Unlink s) h = Unit {0}
 IsAnswer (Settle s answer) h = (answer ≡ Deleted) ↔ IsDeletionOf (Settles s ∷ h) s (length (Settles s ∷ h))
 IsAnswer (Snap w) h = Unit {0}
-IsAnswer (Unsnap w gone) h = (s : ℕ) → (has s gone ≡ true) ↔ ((use_of h s ≡ Tracked) × IsDeletionOf (Unsnaps w ∷ h) s (length (Unsnaps w ∷ h)))
+IsAnswer (Unsnap w gone) h = (s : ℕ) → (has s gone.items ≡ true) ↔ ((use_of h s ≡ Tracked) × IsDeletionOf (Unsnaps w ∷ h) s (length (Unsnaps w ∷ h)))
 IsAnswer (Head answer) h = answer ≡ head_after h
 IsAnswer (Next s answer) h = answer ≡ next_after h s
 

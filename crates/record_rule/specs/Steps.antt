@@ -49,7 +49,7 @@ Does (Track s) p x y = IsWritten (claim_at p.claims s) × Moves x y s Linked
 Does (Unlink s) p x y = IsOwned (claim_at p.claims s) × Moves x y s Leaving
 Does (Settle s answer) p x y = IsUnlinked (claim_at p.claims s) × Moves x y s (moved_to answer)
 Does (Snap w) p x y = (w ≡ p.number) × (w < 16) × (is_walking p.own ≡ false) × Begins x y w
-Does (Unsnap w gone) p x y = (w ≡ p.number) × (is_walking p.own ≡ true) × Ends x y w gone
+Does (Unsnap w gone) p x y = (w ≡ p.number) × (is_walking p.own ≡ true) × Ends x y w gone.items
 Does (Head answer) p x y = (is_walking p.own ≡ true) × (y ≡ x)
 Does (Next s answer) p x y = (is_walking p.own ≡ true) × (has s (walk_of p.own) ≡ true) × (y ≡ x)
 
@@ -161,3 +161,22 @@ Splits v a b = Gives v a b ⊎ Issues v a b
 
 abbrev pub Merges : DeskView → DeskView → DeskView → Type 0
 Merges v w both = Returns v w both ⊎ Redeems v w both
+
+abbrev pub no_registry : Contents
+no_registry = record { walkers = 0; clock = 0; stamps = 0; head = None; entries = []; newer = []; births = []; queue = [] }
+
+module _ {S : Type 0} where
+  -- the registry of value 0
+  abbrev pub registry_of : DeskValue S → Contents
+  registry_of (Lists r) = r
+  registry_of (Record r) = no_registry
+
+  abbrev pub IsList : DeskValue S → Type 0
+  IsList x = x ≡ Lists (registry_of x)
+
+  -- a deed, over every history that the registry replays
+  pub record Makes (x y : DeskValue S) (deed : Deed) : Type 0 where
+    pub from : IsList x
+    pub to : IsList y
+    pub replays : (h : History) → Replays h (registry_of x) → Replays (after_deed deed h) (registry_of y)
+    pub answers : (h : History) → Replays h (registry_of x) → IsAnswer deed h

@@ -66,7 +66,7 @@ claims_after (Free s) cs = (s, Nothing) ∷ cs
 claims_after (Track s) cs = (s, linked_claim (claim_at cs s)) ∷ cs
 claims_after (Unlink s) cs = (s, unlinked_claim (claim_at cs s)) ∷ cs
 claims_after (Settle s answer) cs = (s, settled_claim answer (claim_at cs s)) ∷ cs
-claims_after (Unsnap w gone) cs = nothing_left gone cs
+claims_after (Unsnap w gone) cs = nothing_left gone.items cs
 claims_after _ cs = cs
 
 abbrev pub untracked_after : Deed → List (ℕ × Claim) → List (ℕ × List Noted) → List (ℕ × List Noted)
@@ -88,3 +88,25 @@ left_of (Some (Shown stamp update)) = 0
 abbrev pub all_left : List (Option DeskView) → ℕ
 all_left [] = 0
 all_left (v ∷ vs) = left_of v + all_left vs
+
+-- what a token knows, by its view
+abbrev pub token_in : DeskView → TokenView
+token_in (Token p) = p
+token_in (Root given back) = new_token 0
+token_in (Ticket s stamp notes bare) = new_token 0
+token_in (Shown stamp update) = new_token 0
+
+-- a view after a deed at a place, and after a change of a claim
+abbrev pub done_view : ℕ → Deed → DeskView → DeskView
+done_view place d v = Token (done place d (token_in v))
+
+abbrev pub claiming_view : ℕ → Claim → DeskView → DeskView
+claiming_view s c v = Token (claiming s c (token_in v))
+
+-- a token's view
+abbrev pub IsTokenView : DeskView → Type 0
+IsTokenView v = v ≡ Token (token_in v)
+
+-- one deed more
+abbrev pub HasDone : TokenView → TokenView → Deed → Type 0
+HasDone p q d = (place : ℕ) × (q ≡ done place d p)

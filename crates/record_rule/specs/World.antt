@@ -129,6 +129,7 @@ module _ {S : Type 0} where
 
     pub record IsWorld (g : Facts) (values : List (DeskValue S)) (views : List (Option DeskView)) : Type 0 where
       pub first : get_elem? values 0 ≡ some (Lists g.registry)
+      pub walkers : g.registry.walkers ≡ 16
       pub replays : Replays (history g.log) g.registry
       pub log : IsLog g.log
       pub room : all_left views + length (history g.log) ≤ most_tokens * most_actions

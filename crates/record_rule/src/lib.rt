@@ -3,11 +3,9 @@
 #![tactic(auto)]
 
 mod holding;
-mod rule;
 mod values;
 mod views;
 
 pub use holding::Holding;
-pub use rule::RecordRule;
 pub use values::{DeskValue, Note, Rep};
 pub use views::{Claim, Deed, DeskView, LogEntry, Noted, TokenView};

@@ -1,10 +1,12 @@
-//! What tokens know. No value of these types is made.
+//! What tokens know. No value of these types is made but of deeds.
 use crate::values::Note;
+use arrayvec::ArrayVec;
 use cordz_core::Settled;
 use node_edges::Edge;
 use std::collections::LinkedList;
 
 /// An action or a read of the registry, with its answer.
+#[derive(Drop)]
 pub enum Deed {
     /// A slot and its stamp.
     Reserve(u16, u64),
@@ -17,7 +19,7 @@ pub enum Deed {
     /// A walker's number.
     Snap(u16),
     /// A walker's number, and the slots of the records that were deleted.
-    Unsnap(u16, LinkedList<u16>),
+    Unsnap(u16, ArrayVec<u16, 256>),
     Head(Option<u16>),
     Next(u16, Option<u16>),
 }

@@ -1,0 +1,4 @@
+pub mod Asking
+pub mod Seeing
+pub mod Shares
+pub mod Tokens

@@ -1,0 +1,20 @@
+//! The desk of sampled records: a registry and 256 records that threads take in turns. Each record keeps a counted share of its
+//! cord's tree, so that a walk may read the tree while its owner goes on.
+#![tactic(auto)]
+
+mod asking;
+mod desk;
+mod list;
+mod naming;
+mod notes;
+mod records;
+mod rule;
+mod share;
+mod tokens;
+mod walks;
+
+pub use desk::CordzDesk;
+pub use naming::DeskNaming;
+pub use rule::RecordRule;
+pub use share::Share;
+pub use tokens::{CordzPass, Reserved, Ticket};
