@@ -46,6 +46,7 @@ pub enum Kind {
 }
 
 impl Kind {
+    /// What action `k` of a plan is.
     pub fn at(k: u16) -> Kind {
         match k % 4 {
             0 => Kind::Put,

@@ -13,12 +13,14 @@ pub struct BoardCord {
 }
 
 impl BoardCord {
+    /// The cord as an item of the board.
     pub fn of(cord: PlainCord) -> BoardCord
         ensures { result.cord ≡ cord }
     {
         BoardCord { cord }
     }
 
+    /// The cord that the item is.
     pub fn into_cord(self) -> PlainCord
         ensures { result ≡ self.cord }
     {

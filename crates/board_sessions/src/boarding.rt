@@ -36,7 +36,8 @@ pub fn put<R: Wait>(
     requires session { CanAct (board_view seat.old) }
     ensures board { IsOn board.now seat.new }
     ensures on { GoesOn (board_view seat.old) (board_view seat.new) 1 }
-    ensures ok { IfOk result (λ reply. Advances (board_view seat.old) (board_view seat.new) (environment_of names.old) (environment_of names.new) (commands.Put a.now cell) reply) }
+    ensures ok { IfOk result
+        (λ reply. Advances (board_view seat.old) (board_view seat.new) (environment_of names.old) (environment_of names.new) (commands.Put a.now cell) reply) }
 {
     let Some(cord) = names.exchange(a, PlainCord::empty(alloc)) else {
         return unset(alloc, a);
@@ -59,7 +60,8 @@ pub fn take<'a, R: Wait>(
     requires session { CanAct (board_view seat.old) }
     ensures board { IsOn board.now seat.new }
     ensures on { GoesOn (board_view seat.old) (board_view seat.new) 1 }
-    ensures ok { IfOk result (λ reply. Advances (board_view seat.old) (board_view seat.new) (environment_of names.old) (environment_of names.new) (commands.Take cell a.now) reply) }
+    ensures ok { IfOk result
+        (λ reply. Advances (board_view seat.old) (board_view seat.new) (environment_of names.old) (environment_of names.new) (commands.Take cell a.now) reply) }
 {
     let Some(found) = board.take(rt, seat, cell) else {
         return Ok(empty(cell));
@@ -83,7 +85,8 @@ pub fn peek<'a, R: Wait>(
     requires session { CanAct (board_view seat.old) }
     ensures board { IsOn board.now seat.new }
     ensures on { GoesOn (board_view seat.old) (board_view seat.new) 1 }
-    ensures ok { IfOk result (λ reply. Advances (board_view seat.old) (board_view seat.new) (environment_of names.old) (environment_of names.new) (commands.Peek cell a.now) reply) }
+    ensures ok { IfOk result
+        (λ reply. Advances (board_view seat.old) (board_view seat.new) (environment_of names.old) (environment_of names.new) (commands.Peek cell a.now) reply) }
 {
     let mut peeker = Peeker { alloc };
     let Some(copied) = board.peek(rt, seat, cell, &mut peeker) else {
@@ -109,7 +112,8 @@ pub fn swap<R: Wait>(
     requires session { CanAct (board_view seat.old) }
     ensures board { IsOn board.now seat.new }
     ensures on { GoesOn (board_view seat.old) (board_view seat.new) 1 }
-    ensures ok { IfOk result (λ reply. Advances (board_view seat.old) (board_view seat.new) (environment_of names.old) (environment_of names.new) (commands.Swap a.now cell) reply) }
+    ensures ok { IfOk result
+        (λ reply. Advances (board_view seat.old) (board_view seat.new) (environment_of names.old) (environment_of names.new) (commands.Swap a.now cell) reply) }
 {
     let Some(cord) = names.exchange(a, PlainCord::empty(alloc)) else {
         return unset(alloc, a);

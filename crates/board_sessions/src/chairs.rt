@@ -68,7 +68,8 @@ pub fn seat_all(
     ensures len { length result.items ≡ length sessions.now }
     ensures board { IsOn board.now root.new }
     ensures root { Seated (board_view root.new) sessions.now (length sessions.now) }
-    ensures starts { (p : ℕ) (s : Session_value) (c : Chair_value) → p < length sessions.now → Starts board.now (slice_index_or sessions.now p s).commands p (slice_index_or result.items p c) }
+    ensures starts { (p : ℕ) (s : Session_value) (c : Chair_value) → p < length sessions.now
+        → Starts board.now (slice_index_or sessions.now p s).commands p (slice_index_or result.items p c) }
 {
     let mut chairs = room;
     for (number, session) in sessions.iter().enumerate() {
@@ -91,11 +92,14 @@ pub fn gather(
     requires room { (room.items ≡ []) × (length sessions.now ≤ vec_capacity room) }
     requires board { IsOn board.now root.old }
     requires root { Seated (board_view root.old) sessions.now (length sessions.now) }
-    requires ends { (p : ℕ) (s : Session_value) (c : Chair_value) → p < length sessions.now → Ends board.now (slice_index_or sessions.now p s).commands p (slice_index_or chairs.items p c) }
+    requires ends { (p : ℕ) (s : Session_value) (c : Chair_value) → p < length sessions.now
+        → Ends board.now (slice_index_or sessions.now p s).commands p (slice_index_or chairs.items p c) }
     ensures len { length result.items ≡ length sessions.now }
     ensures board { IsOn board.now root.new }
     ensures root { Joined (board_view root.new) (length sessions.now) (length sessions.now) }
-    ensures books { (p : ℕ) (s : Session_value) (b : _) → p < length sessions.now → IfSome (slice_index_or result.items p b) (λ book. IsBookAlone p (slice_index_or sessions.now p s).commands book (map (mapped_deed state_in) (mine_in (joined_of (board_view root.new)) p))) }
+    ensures books { (p : ℕ) (s : Session_value) (b : _) → p < length sessions.now
+        → IfSome (slice_index_or result.items p b)
+        (λ book. IsBookAlone p (slice_index_or sessions.now p s).commands book (map (mapped_deed state_in) (mine_in (joined_of (board_view root.new)) p))) }
 {
     let mut books = room;
     for chair in chairs {

@@ -32,8 +32,10 @@ fn run_all<R: Threads + Wait + Sync, G: Gate + Sync>(
 )
     requires len { length chairs.old ≡ length sessions.now }
     requires runnable { (p : ℕ) (s : Session_value) → p < length sessions.now → All IsWithin (slice_index_or sessions.now p s).commands }
-    requires starts { (p : ℕ) (s : Session_value) (c : Chair_value) → p < length sessions.now → Starts board.now (slice_index_or sessions.now p s).commands p (slice_index_or chairs.old p c) }
-    ensures { (p : ℕ) (s : Session_value) (c : Chair_value) → p < length sessions.now → Ends board.now (slice_index_or sessions.now p s).commands p (slice_index_or chairs.new p c) }
+    requires starts { (p : ℕ) (s : Session_value) (c : Chair_value) → p < length sessions.now
+        → Starts board.now (slice_index_or sessions.now p s).commands p (slice_index_or chairs.old p c) }
+    ensures { (p : ℕ) (s : Session_value) (c : Chair_value) → p < length sessions.now
+        → Ends board.now (slice_index_or sessions.now p s).commands p (slice_index_or chairs.new p c) }
 {
     let count = chairs.len();
     if count == 0 {

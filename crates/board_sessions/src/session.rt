@@ -48,7 +48,9 @@ fn act_on_cell<'a, R: Wait>(
     requires session { CanAct (board_view seat.old) }
     ensures board { IsOn board.now seat.new }
     ensures on { GoesOn (board_view seat.old) (board_view seat.new) 1 }
-    ensures ok { IfOk result (λ reply. Advances (board_view seat.old) (board_view seat.new) (environment_of names.old) (environment_of names.new) (command_on act cell a.now) reply) }
+    ensures ok { IfOk result
+        (λ reply. Advances (board_view seat.old) (board_view seat.new) (environment_of names.old) (environment_of names.new)
+        (command_on act cell a.now) reply) }
 {
     match act {
         Act::Put => put(rt, alloc, board, seat, names, a, cell),
@@ -72,7 +74,8 @@ fn do_command<'a, R: Wait>(
     requires session { IsSession (board_view seat.old) × (entries_for command.now ≤ entries_left (board_view seat.old)) }
     ensures board { IsOn board.now seat.new }
     ensures on { GoesOn (board_view seat.old) (board_view seat.new) (entries_for command.now) }
-    ensures ok { IfOk result (λ reply. Advances (board_view seat.old) (board_view seat.new) (environment_of names.old) (environment_of names.new) command.now reply) }
+    ensures ok { IfOk result
+        (λ reply. Advances (board_view seat.old) (board_view seat.new) (environment_of names.old) (environment_of names.new) command.now reply) }
 {
     match names.run(command)? {
         Ran::Answered(reply) => Ok(reply),

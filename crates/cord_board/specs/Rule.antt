@@ -129,8 +129,10 @@ module _ {C : Type 0} where
 
   -- the cell held what such a list made of it, if it wasn't cleared before
   abbrev pub CellHeld : List ℕ → List (ℕ × List (Deed C)) → List ℕ → ℕ → Option C → Type 0
-  CellHeld gave joined cleared cell was = (log : List (Deed C)) × IsLog gave joined log × (slice_get (emptied cleared (cells_after empty_cells log)) cell ≡ Some was)
+  CellHeld gave joined cleared cell was = (log : List (Deed C)) × IsLog gave joined log
+      × (slice_get (emptied cleared (cells_after empty_cells log)) cell ≡ Some was)
 
   -- the history is that of such a list, which also leaves the cells as they are when all that was cleared is put back into empty ones
   abbrev pub IsEnd : (C → ℕ) → List Entry → List ℕ → List (ℕ × List (Deed C)) → List (ℕ × Option C) → Type 0
-  IsEnd size history gave joined cleared = (log : List (Deed C)) × IsLog gave joined log × (history ≡ map (entry_of size) log) × (put_back cleared empty_cells ≡ cells_after empty_cells log)
+  IsEnd size history gave joined cleared = (log : List (Deed C)) × IsLog gave joined log × (history ≡ map (entry_of size) log)
+      × (put_back cleared empty_cells ≡ cells_after empty_cells log)

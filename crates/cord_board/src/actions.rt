@@ -75,7 +75,9 @@ impl<C: BoardItem> Board<C> {
         requires session { CanAct (board_view pass.old) }
         requires asks { C.Twin.asks with.old }
         ensures board { IsOn self.now pass.new }
-        ensures did { let v = board_view pass.old in (was : Option C) × MatchOption was (IsNone result × (with.new ≡ with.old)) (λ x. IsSomeAnd result (λ y. C.Twin.gives x with.old with.new y)) × Did v (board_view pass.new) (deed (session_of v) (next_place v) Act.Peek cell None was) }
+        ensures did { let v = board_view pass.old in (was : Option C)
+            × MatchOption was (IsNone result × (with.new ≡ with.old)) (λ x. IsSomeAnd result (λ y. C.Twin.gives x with.old with.new y))
+            × Did v (board_view pass.new) (deed (session_of v) (next_place v) Act.Peek cell None was) }
     {
         let mut turn = self.desk.enter(rt, &mut pass.pass, 0);
         let out = turn.value().peek(pass.session, pass.made + 1, cell, with);
@@ -91,7 +93,8 @@ impl<C: BoardItem> Board<C> {
         requires cell { cell < 64 }
         requires last { IsLast (board_view pass.old) }
         ensures board { IsOn self.now pass.new }
-        ensures cleared { let v = board_view pass.old in board_view pass.new ≡ Root (entries_left v) (gave_of v) (joined_of v) ((cell, result) ∷ clearings_of v) }
+        ensures cleared { let v = board_view pass.old in board_view pass.new ≡
+            Root (entries_left v) (gave_of v) (joined_of v) ((cell, result) ∷ clearings_of v) }
         ensures held { let v = board_view pass.old in CellHeld (gave_of v) (joined_of v) (cleared_of v) cell result }
     {
         let mut turn = self.desk.enter(rt, &mut pass.pass, 0);

@@ -96,7 +96,8 @@ impl<C: BoardItem> Board<C> {
         requires root { IsRoot (board_view into.old) }
         requires session { IsSession (board_view other) }
         ensures board { IsOn self.now into.new }
-        ensures into { let v = board_view into.old in let w = board_view other in board_view into.new ≡ Root (entries_left v + entries_left w) (gave_of v) (joined_of v ++ (session_of w, mine_of w) ∷ []) (clearings_of v) }
+        ensures into { let v = board_view into.old in let w = board_view other in board_view into.new ≡
+            Root (entries_left v + entries_left w) (gave_of v) (joined_of v ++ (session_of w, mine_of w) ∷ []) (clearings_of v) }
     {
         let BoardPass {
             pass,

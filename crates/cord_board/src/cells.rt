@@ -1,5 +1,6 @@
 //! The cells with their history, which lie on the desk.
-ghost use Rattle.std.specs.Prelude.{◌≡◌, ◌<◌, ◌++◌, ◌∷◌, [], slice_get, slice_set, vec_len, vec_capacity, option_map, IsNone, IsSomeAnd, MatchOption, MatchResult, Option, Some, None};
+ghost use Rattle.std.specs.Prelude.{◌≡◌, ◌<◌, ◌++◌, ◌∷◌, [], slice_get, slice_set, vec_len, vec_capacity, option_map, IsNone, IsSomeAnd, MatchOption};
+ghost use Rattle.std.specs.Prelude.{MatchResult, Option, Some, None};
 ghost use Rattle.plain_cord.specs.Deeds.{deed};
 ghost use Rattle.cord_board.specs.Log.{Acts, Clears};
 
@@ -121,7 +122,8 @@ impl<C: BoardItem> Cells<C> {
         requires cell { cell < vec_len self.old.cells }
         requires room { vec_len self.old.history < vec_capacity self.old.history }
         requires asks { C.Twin.asks with.old }
-        ensures { (was : Option C) × MatchOption was (IsNone result × (with.new ≡ with.old)) (λ x. IsSomeAnd result (λ y. C.Twin.gives x with.old with.new y)) × Acts C.length_of self.old self.new (deed session place Act.Peek cell None was) }
+        ensures { (was : Option C) × MatchOption was (IsNone result × (with.new ≡ with.old))
+            (λ x. IsSomeAnd result (λ y. C.Twin.gives x with.old with.new y)) × Acts C.length_of self.old self.new (deed session place Act.Peek cell None was) }
     {
         let slot = &mut self.cells[usize::from(cell)];
         let was = length_in(slot);

@@ -47,7 +47,8 @@ impl<C: BoardItem + Drop> Board<C> {
         requires cleared { (k : ℕ) → k < 64 → has k (cleared_of (board_view pass)) ≡ true }
         ensures history { let v = board_view pass in IsHistory C.length_of result.items (gave_of v) (joined_of v) }
         ensures cleared { let v = board_view pass in IsEnd C.length_of result.items (gave_of v) (joined_of v) (clearings_of v) }
-        ensures own { let v = board_view pass in (p : ℕ) → has p (gave_of v) ≡ true → entries_of p result.items ≡ map (entry_of C.length_of) (mine_in (joined_of v) p) }
+        ensures own { let v = board_view pass in (p : ℕ) → has p (gave_of v) ≡ true
+            → entries_of p result.items ≡ map (entry_of C.length_of) (mine_in (joined_of v) p) }
         ensures none { (p : ℕ) → has p (gave_of (board_view pass)) ≡ false → entries_of p result.items ≡ [] }
         ensures numbered { (p : ℕ) → CountUp 1 (entries_of p result.items) }
     {

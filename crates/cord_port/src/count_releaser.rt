@@ -11,6 +11,7 @@ pub struct CountReleaser {
 }
 
 impl CountReleaser {
+    /// A releaser that wasn't called.
     pub fn new() -> CountReleaser
         ensures calls { ⟦<CountReleaser as Releaser>⟧.calls_of result ≡ 0 }
         ensures latest { ⟦<CountReleaser as Releaser>⟧.latest_of result ≡ None }

@@ -17,6 +17,7 @@ pub struct LogReleaser {
 impl LogReleaser {
     ghost use Rattle.cord_port.specs.Logs.{log_calls, log_latest, log_lengths, log_room};
 
+    /// A releaser that wasn't called, with room for so many lengths. An error is want of memory.
     pub fn new(alloc: Global, room: usize) -> Result<LogReleaser, Memory>
         ensures calls { IfOk result (λ r. log_calls r ≡ 0) }
         ensures latest { IfOk result (λ r. log_latest r ≡ None) }

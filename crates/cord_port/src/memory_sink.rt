@@ -22,6 +22,7 @@ pub struct MemorySink {
 }
 
 impl MemorySink {
+    /// An empty sink with room for `room` bytes, which takes at most `most` in a call and fails at the calls that `fails` lists, counted from 1.
     pub fn new(
         alloc: Global,
         room: usize,

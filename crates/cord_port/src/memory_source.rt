@@ -22,6 +22,7 @@ pub struct MemorySource {
 impl MemorySource {
     ghost use Rattle.cord_port.specs.Memories.{source_bytes, source_given, source_calls, source_fails, source_faults};
 
+    /// A source of these bytes, which fails at the calls that `fails` lists, counted from 1.
     pub fn new(bytes: Vec<u8>, fails: Vec<u32>) -> MemorySource
         ensures left { source_bytes result ≡ bytes.items }
         ensures calls { source_calls result ≡ 0 }

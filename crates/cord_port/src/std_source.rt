@@ -18,6 +18,7 @@ pub struct StdSource<R> {
 }
 
 impl<R: Read + Drop> StdSource<R> {
+    /// A source over the reader, with no fault yet.
     pub fn new(reader: R) -> StdSource<R>
         ensures left { ⟦<StdSource<R> as Source>⟧.left result ≡ R.remaining reader }
         ensures given { ⟦<StdSource<R> as Source>⟧.given result ≡ 0 }

@@ -63,7 +63,8 @@ IsCopyRefused limit tree _ v w = ⊥
 -- ---- what any refusal leaves
 -- A counted step found fewer live passes than the limit, but for the last one where the limit is what the call was refused for.
 abbrev pub AreCountsOf : ℕ → CordError → List Count → Type 0
-AreCountsOf limit (PassLimit found) counts = (given : List Count) × (last : Count) × (counts ≡ given ++ last ∷ []) × AreBelow limit given × (last.found ≡ found) × (limit ≤ found)
+AreCountsOf limit (PassLimit found) counts = (given : List Count) × (last : Count) × (counts ≡ given ++ last ∷ []) × AreBelow limit given
+    × (last.found ≡ found) × (limit ≤ found)
 AreCountsOf limit _ counts = AreBelow limit counts
 
 -- the worker holds what it held before, took no number, and ended each pass that it made

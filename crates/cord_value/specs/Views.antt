@@ -12,7 +12,8 @@ pub record CordView : Type 0 where
   pub tree : Option Node
 
 abbrev pub coded_cord : Coded CordView
-coded_cord = code_by (List ℕ × Option Node) (coded× (coded_list coded_ℕ) (coded_option coded_node)) (λ c. (c.bytes, c.tree)) (λ p. record { bytes = p.0; tree = p.1 }) (λ _. refl)
+coded_cord = code_by (List ℕ × Option Node) (coded× (coded_list coded_ℕ) (coded_option coded_node)) (λ c. (c.bytes, c.tree))
+    (λ p. record { bytes = p.0; tree = p.1 }) (λ _. refl)
 
 -- there is a tree exactly where there are more than 15 bytes; it is well formed, and its text is the bytes
 abbrev pub IsTreeOf : List ℕ → Option Node → Type 0

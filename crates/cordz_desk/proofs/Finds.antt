@@ -82,9 +82,11 @@ module _ {S : Type 0} (tree_of : S → Node) (fits : S → Type 0) where
       let g = t.facts in
       let h : Has g t.seat s (claim_at p.claims s) = ⊎_elim (λ none. absurd (held none)) (λ z. z) (t.token.claims s) in
       let o = t.world.slots s h.0 in
-      let stamp : ℕ = stamp_in (history g.log) s in
-      (h.0, state_is (claim_at p.claims s) (state_of g.registry s) s stamp (g.slot stamp) (g.live stamp) (g.notes stamp) o.rep
-        (subst (λ (z : Claim). IsSlot tree_of fits z (state_of g.registry s) s stamp (g.slot stamp) (g.live stamp) (g.notes stamp) o.rep) h.2 o.is))
+      let stamp : ℕ = stamp_in (history g.log) s in (
+        h.0,
+        state_is (claim_at p.claims s) (state_of g.registry s) s stamp (g.slot stamp) (g.live stamp) (g.notes stamp) o.rep
+            (subst (λ (z : Claim). IsSlot tree_of fits z (state_of g.registry s) s stamp (g.slot stamp) (g.live stamp) (g.notes stamp) o.rep) h.2 o.is),
+      )
 
   not_free : (c : Claim) → MayFree c → c ≢ Nothing
   not_free Nothing m e = absurd m

@@ -69,7 +69,12 @@ impl<P: Naming, D: DeskNaming> CordzDesk<P, D> {
         deed
     }
 
-    fn leave<B: Becoming>(&self, pass: &mut Seated<P>, turn: Turn<RecordRule<Share<P>>>, deed: &Deed)
+    fn leave<B: Becoming>(
+        &self,
+        pass: &mut Seated<P>,
+        turn: Turn<RecordRule<Share<P>>>,
+        deed: &Deed,
+    )
         requires after { B.after ≡ done_view (registry_of (turn_value turn)).clock deed.now }
         requires desk { IsOf self.now.desk pass.old }
         requires turn { HasTurn pass.old (turn_place turn) (taken_value turn) }

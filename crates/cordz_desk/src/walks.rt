@@ -52,11 +52,7 @@ impl<P: Naming, D: DeskNaming> CordzDesk<P, D> {
     }
 
     /// Ends the pass's snapshot, and gives the slots of the records that are deleted with it, in the order of their settling.
-    pub fn end_snapshot<R: Wait>(
-        &self,
-        rt: &R,
-        pass: &mut CordzPass<P, D>,
-    ) -> ArrayVec<u16, 256>
+    pub fn end_snapshot<R: Wait>(&self, rt: &R, pass: &mut CordzPass<P, D>) -> ArrayVec<u16, 256>
         requires few { made_of (token_of pass.old).own < 2 ^ 34 }
         requires walking { is_walking (token_of pass.old).own ≡ true }
         ensures { HasDone (token_of pass.old) (token_of pass.new) (Unsnap (token_of pass.old).number result) }

@@ -25,7 +25,8 @@ module _ {L : Type 0} where
   written_front (grow l cs rest) empty r s e = absurd (cc)
   written_front (grow l cs rest) (grow m ds more) r s e =
       let tail : (written cs ++ written rest) ++ r ≡ (written ds ++ written more) ++ s = cc in
-      let a : written cs ++ (written rest ++ r) ≡ written ds ++ (written more ++ s) = sym (append_assoc (written cs) (written rest) r) ∙ (tail ∙ append_assoc (written ds) (written more) s) in
+      let a : written cs ++ (written rest ++ r) ≡ written ds ++ (written more ++ s) = sym (append_assoc (written cs) (written rest) r)
+      ∙ (tail ∙ append_assoc (written ds) (written more) s) in
       let p = written_front cs ds (written rest ++ r) (written more ++ s) a in
       let q = written_front rest more r s p.1 in
       let here : l ≡ m = cc in

@@ -47,4 +47,9 @@ number_back Shared t = []
 number_back Last t = number t ∷ []
 
 abbrev pub left_by : Left → Node → View → View
-left_by answer t v = record v { holds = without (number t) v.holds ++ freed answer t; returned = v.returned ++ number_back answer t; lone = lone_but (t ∷ []) v.lone }
+left_by answer t v = record v {
+  holds = without (number t) v.holds ++ freed answer t;
+  returned = v.returned ++ number_back answer t;
+  lone =
+      lone_but (t ∷ []) v.lone;
+}

@@ -23,7 +23,8 @@ pub record IsWhole (workers : ℕ) (v : View) : Type 0 where
 -- what a counted step of a worker found is at most the live passes of its own then and the counted steps that all other workers ever
 -- made, and at least the own ones less the uncounted steps of all others
 abbrev pub AreCountsWithin : List View → Type 0
-AreCountsWithin workers = (v : View) → Member v workers → (c : Count) → Member c v.counts → IsWithin (sum_by (λ (w : View). w.made) workers) (sum_by (λ (w : View). w.ended) workers) v.made v.ended c
+AreCountsWithin workers = (v : View) → Member v workers → (c : Count) → Member c v.counts
+    → IsWithin (sum_by (λ (w : View). w.made) workers) (sum_by (λ (w : View). w.ended) workers) v.made v.ended c
 
 -- each number that a worker's takes found in use was taken by some worker
 abbrev pub AreTakenByWorkers : List View → Type 0

@@ -37,7 +37,8 @@ impl<P: Naming, B: Releaser> Pool<P, B> {
         ensures least { numbers_in P.size (all_holds workers.items) ≤ result.in_use }
         ensures most { result.in_use ≤ P.size }
         ensures nothing { result.in_use ≡ 0 → All (λ (v : View). v.holds ≡ []) workers.items }
-        ensures boxes { AreReturned P.boxes workers.items result.in_use (map (λ b. record { calls = B.calls_of b; latest = B.latest_of b }) result.releasers.items) }
+        ensures boxes { AreReturned P.boxes workers.items result.in_use
+            (map (λ b. record { calls = B.calls_of b; latest = B.latest_of b }) result.releasers.items) }
     {
         let Pool {
             table,
@@ -91,7 +92,8 @@ pub(crate) fn emptied<B: Releaser>(
     ensures least { numbers_in numbers seat.me.0.holds ≤ result.0 }
     ensures most { result.0 ≤ numbers }
     ensures nothing { result.0 ≡ 0 → seat.me.0.holds ≡ [] }
-    ensures boxes { AreReturned (map handed_of table.shared.key.boxes.items) (seat.me.0 ∷ []) result.0 (map (λ b. record { calls = B.calls_of b; latest = B.latest_of b }) result.1.items) }
+    ensures boxes { AreReturned (map handed_of table.shared.key.boxes.items) (seat.me.0 ∷ []) result.0
+        (map (λ b. record { calls = B.calls_of b; latest = B.latest_of b }) result.1.items) }
 {
     let mut returned = returned;
     let slots = table.slot_count();

@@ -44,6 +44,7 @@ impl Changed for Brand {
     ghost changes = { [] };
 }
 
+/// The play of a change in place: the root's word is loaded, and the editor's view changes.
 pub struct Marks<T> {
     of: PhantomData<T>,
 }
@@ -105,7 +106,9 @@ impl<P: Naming, B: Releaser> Pool<P, B> {
         requires lone { IsLonePath T.root T.path w.old }
         ensures changed { OnOk result (root.new ≡ (changed_root T.root T.path T.changes).tree) }
         ensures removed { IfOk result (λ out. out.items ≡ (changed_root T.root T.path T.changes).out) }
-        ensures traded { OnOk result (Trades w.old.holds (T.root ∷ all_new T.changes) ((changed_root T.root T.path T.changes).out ++ (changed_root T.root T.path T.changes).tree ∷ []) w.new.holds) }
+        ensures traded { OnOk result
+            (Trades w.old.holds (T.root ∷ all_new T.changes)
+            ((changed_root T.root T.path T.changes).out ++ (changed_root T.root T.path T.changes).tree ∷ []) w.new.holds) }
         ensures marked { OnOk result (w.new ≡ marking T.root T.path (core_changes T.changes (site T.root T.path [])) w.old) }
         ensures tree_if_err { OnErr result (root.new ≡ root.old) }
         ensures worker_if_err { OnErr result (w.new ≡ w.old) }
@@ -121,7 +124,8 @@ impl<P: Naming, B: Releaser> Pool<P, B> {
         requires fits { CanMark T.root T.path T.changes w.old }
         requires lone { IsLonePath T.root T.path w.old }
         ensures marked { w.new ≡ marking T.root T.path (core_changes T.changes (site T.root T.path [])) w.old }
-        ensures traded { Trades w.old.holds (T.root ∷ all_new T.changes) ((changed_root T.root T.path T.changes).out ++ (changed_root T.root T.path T.changes).tree ∷ []) w.new.holds }
+        ensures traded { Trades w.old.holds (T.root ∷ all_new T.changes)
+            ((changed_root T.root T.path T.changes).out ++ (changed_root T.root T.path T.changes).tree ∷ []) w.new.holds }
     {
         let mut seat: TokenSeat<B> = mem::replace(&mut w.badge, Badge::blank()).into_seat();
         self.table

@@ -19,6 +19,7 @@ pub struct Outlet<B: Releaser> {
 impl<B: Releaser> Outlet<B> {
     ghost use Rattle.node_pool.specs.Outlets.{inner_of};
 
+    /// A slot's box that wasn't called.
     pub fn new(inner: B) -> Outlet<B>
         requires room { B.calls_of inner < 2 ^ 64 - 1 }
         ensures inner { inner_of result ≡ inner }
@@ -47,6 +48,7 @@ impl<B: Releaser> Outlet<B> {
         self.length = Some(length);
     }
 
+    /// The box.
     pub fn into_inner(self) -> B
         ensures inner { result ≡ inner_of self }
         ensures calls { B.calls_of result ≡ calls_after self.before self.length }

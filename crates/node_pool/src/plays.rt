@@ -6,6 +6,7 @@ use atomic_table::{Join, Play, Split};
 use cord_port::Releaser;
 use std::marker::PhantomData;
 
+/// The play of a take: a word is raised from 0 to 1, or found not 0.
 pub struct Takes<T> {
     node: PhantomData<T>,
 }
@@ -16,6 +17,7 @@ impl<S, T: Chosen> Play<S, TokenView> for Takes<T> {
     ghost then = { taken T.node };
 }
 
+/// The play of a share: a node's word is raised by one.
 pub struct Shares<T> {
     node: PhantomData<T>,
 }
@@ -48,6 +50,7 @@ impl<S> Play<S, TokenView> for Homes {
     ghost then = { homed };
 }
 
+/// The play of a counted step: the word of live passes is raised by one.
 pub struct Counts;
 
 impl<S> Play<S, TokenView> for Counts {
@@ -57,6 +60,7 @@ impl<S> Play<S, TokenView> for Counts {
     ghost then = { λ _ m n m2. Told (counting n m.0) m m2 };
 }
 
+/// The play of an uncounted step: the word of live passes is lowered by one.
 pub struct Ends;
 
 impl<S> Play<S, TokenView> for Ends {
@@ -66,6 +70,7 @@ impl<S> Play<S, TokenView> for Ends {
     ghost then = { λ _ m n m2. Told (ending m.0) m m2 };
 }
 
+/// The play by which a counted step that found the limit reached is taken back.
 pub struct Undoes;
 
 impl<S> Play<S, TokenView> for Undoes {
@@ -136,6 +141,7 @@ impl<P: Naming> Join<TokenView> for Merges<P> {
     ghost spent = { blank 0 P.size P.limit 0 };
 }
 
+/// The play of a look: a node's word is loaded.
 pub struct Looks<T> {
     node: PhantomData<T>,
 }

@@ -28,7 +28,8 @@ impl<P: Naming> Model for Worker<P> {
 
     ghost view = { λ w. only w.badge.views };
 
-    ghost invariant = { λ w. (w.next < P.size) × IsToken (IsWorkerView P.size P.limit) P.table w.badge.table_id w.badge.views × HasSlots w.slots (only w.badge.views) };
+    ghost invariant = { λ w. (w.next < P.size) × IsToken (IsWorkerView P.size P.limit) P.table w.badge.table_id w.badge.views
+        × HasSlots w.slots (only w.badge.views) };
 }
 
 impl<P: Naming> Worker<P> {

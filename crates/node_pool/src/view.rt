@@ -30,6 +30,7 @@ pub struct PoolTerms {
     pub boxes: Vec<(u64, Option<u64>)>,
 }
 
+/// The rule of the pool's table: each word is the number of its node's holders.
 pub struct CountRule;
 
 impl<B: Releaser> TableRule<Option<Outlet<B>>, TokenView, PoolTerms> for CountRule {

@@ -20,4 +20,5 @@ pub record StepsAlone (p : ℕ) (state : SessionState) (line : Line) (now : List
 -- all lines, with what they did in that order
 abbrev pub RunsAlone : ℕ → SessionState → List Line → List (Deed CordState) → SessionState → Type 0
 RunsAlone p state [] did after = (did ≡ []) × (after ≡ state)
-RunsAlone p state (line ∷ more) did after = (mid : SessionState) × (now : List (Deed CordState)) × (later : List (Deed CordState)) × (did ≡ now ++ later) × StepsAlone p state line now mid × RunsAlone p mid more later after
+RunsAlone p state (line ∷ more) did after = (mid : SessionState) × (now : List (Deed CordState)) × (later : List (Deed CordState)) × (did ≡ now ++ later)
+    × StepsAlone p state line now mid × RunsAlone p mid more later after

@@ -54,7 +54,15 @@ module _ {C : Type 0} where
 
   -- what the history keeps of an action, whose items are so long
   abbrev pub entry_of : (C → ℕ) → Deed C → Entry
-  entry_of size d = record { session = d.session; place = d.place; act = d.act; cell = d.cell; came = option_map size d.came; was = noted_of d.act (option_map size d.was) }
+  entry_of size d = record {
+    session = d.session;
+    place = d.place;
+    act = d.act;
+    cell = d.cell;
+    came = option_map size d.came;
+    was =
+        noted_of d.act (option_map size d.was);
+  }
 
 -- the same action on other items
 abbrev pub mapped_deed : {C D : Type 0} → (C → D) → Deed C → Deed D

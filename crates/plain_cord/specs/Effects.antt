@@ -71,10 +71,16 @@ brought cord (Some x) = Some cord
 
 -- of the session p; None: it needs more than byte strings and the board
 abbrev pub effect_of : ℕ → SessionState → Cells → Meaning → Option Effect
-effect_of p state cells (OnCell Put cell a) = Some (with_own state cells a (state.names a) (λ cord. acting p state cells Put cell (Some cord) (held_in cells cell) (with_name state.names a empty_cord) (replies.Done marks.Plain None)))
-effect_of p state cells (OnCell Take cell a) = Some (let was = held_in cells cell in acting p state cells Take cell None was (with_given state.names a was) (done_or_empty cell was))
-effect_of p state cells (OnCell Peek cell a) = Some (let was = held_in cells cell in acting p state cells Peek cell None was (with_given state.names a was) (done_or_empty cell was))
-effect_of p state cells (OnCell Swap cell a) = Some (with_own state cells a (state.names a) (λ cord. let was = held_in cells cell in acting p state cells Swap cell (brought cord was) was (with_given state.names a was) (done_or_empty cell was)))
+effect_of p state cells (OnCell Put cell a) =
+    Some (with_own state cells a (state.names a)
+    (λ cord. acting p state cells Put cell (Some cord) (held_in cells cell) (with_name state.names a empty_cord) (replies.Done marks.Plain None)))
+effect_of p state cells (OnCell Take cell a) =
+    Some (let was = held_in cells cell in acting p state cells Take cell None was (with_given state.names a was) (done_or_empty cell was))
+effect_of p state cells (OnCell Peek cell a) =
+    Some (let was = held_in cells cell in acting p state cells Peek cell None was (with_given state.names a was) (done_or_empty cell was))
+effect_of p state cells (OnCell Swap cell a) =
+    Some (with_own state cells a (state.names a)
+    (λ cord. let was = held_in cells cell in acting p state cells Swap cell (brought cord was) was (with_given state.names a was) (done_or_empty cell was)))
 effect_of p state cells means = option_map (apart state cells) (outcome_of state.names means)
 
 abbrev pub effect : ℕ → SessionState → Cells → Command → Option Effect

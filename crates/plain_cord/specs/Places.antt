@@ -10,4 +10,5 @@ pub record StandsAt (bytes needle : List ℕ) (k : ℕ) : Type 0 where
 
 -- the needle stands at this place and at none before it, or at none at all
 abbrev pub IsFirstPlace : List ℕ → List ℕ → Option ℕ → Type 0
-IsFirstPlace bytes needle place = MatchOption place ((k : ℕ) → ¬ StandsAt bytes needle k) (λ k. StandsAt bytes needle k × ((j : ℕ) → j < k → ¬ StandsAt bytes needle j))
+IsFirstPlace bytes needle place = MatchOption place ((k : ℕ) → ¬ StandsAt bytes needle k)
+    (λ k. StandsAt bytes needle k × ((j : ℕ) → j < k → ¬ StandsAt bytes needle j))

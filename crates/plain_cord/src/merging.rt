@@ -13,6 +13,8 @@ ghost use Rattle.plain_cord.specs.Alone.{RunsAlone};
 /// Sessions that ran by themselves, each with its own actions among those of one list in which each action found what its
 /// cell held, are a plain run, and that list is its history.
 pub fn sessions_alone_make_plain_runs()
-    ensures { (sessions : List Session_value) (books : List Book_value) (log : List (Deed_value CordState)) → map length (replies_of books) ≡ map length (commands_of sessions) → IsLegal empty_cells log
-        → ((p : ℕ) → (after : SessionState) × RunsAlone p new_session (lines_at sessions books p) (of_session p log) after) → IsPlainRun sessions books (map (entry_of size_of) log) }
+    ensures { (sessions : List Session_value) (books : List Book_value) (log : List (Deed_value CordState))
+        → map length (replies_of books) ≡ map length (commands_of sessions) → IsLegal empty_cells log
+        → ((p : ℕ) → (after : SessionState) × RunsAlone p new_session (lines_at sessions books p) (of_session p log) after)
+        → IsPlainRun sessions books (map (entry_of size_of) log) }
 {}

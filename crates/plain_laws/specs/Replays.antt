@@ -29,7 +29,8 @@ left_by Swap came lay = came
 -- from these lengths on, each entry found in its cell what the entries before it left there
 abbrev pub FindsLeft : Lengths → List Entry → Type 0
 FindsLeft lengths [] = Unit {0}
-FindsLeft lengths (e ∷ es) = Tells e.act e.came e.was (lying lengths e.cell) × FindsLeft (slice_set lengths e.cell (left_by e.act e.came (lying lengths e.cell))) es
+FindsLeft lengths (e ∷ es) = Tells e.act e.came e.was (lying lengths e.cell)
+    × FindsLeft (slice_set lengths e.cell (left_by e.act e.came (lying lengths e.cell))) es
 
 -- the entries of one session
 abbrev pub entries_of : ℕ → List Entry → List Entry

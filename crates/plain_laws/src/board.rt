@@ -8,12 +8,16 @@ ghost use Rattle.plain_laws.specs.Refusals.{IsRefusal};
 
 /// A refused command, of those that come to the board too, changes neither a name nor a cell.
 pub fn refused_actions_change_nothing()
-    ensures names { (p : ℕ) (state : SessionState) (cells : Cells) (command : Command_value) (e : Effect) → PlainEffect p state cells command e → IsRefusal e.reply → SameNames e.state.names state.names }
-    ensures cells { (p : ℕ) (state : SessionState) (cells : Cells) (command : Command_value) (e : Effect) → PlainEffect p state cells command e → IsRefusal e.reply → e.cells ≡ cells }
+    ensures names { (p : ℕ) (state : SessionState) (cells : Cells) (command : Command_value) (e : Effect) → PlainEffect p state cells command e
+        → IsRefusal e.reply → SameNames e.state.names state.names }
+    ensures cells { (p : ℕ) (state : SessionState) (cells : Cells) (command : Command_value) (e : Effect) → PlainEffect p state cells command e
+        → IsRefusal e.reply → e.cells ≡ cells }
 {}
 
 /// A command touches no name but the one that it sets, and no cell but the one that it names.
 pub fn other_names_and_cells_stay()
-    ensures names { (p : ℕ) (state : SessionState) (cells : Cells) (command : Command_value) (e : Effect) (name : List ℕ) → PlainEffect p state cells command e → target command ≢ Some name → e.state.names name ≡ state.names name }
-    ensures cells { (p : ℕ) (state : SessionState) (cells : Cells) (command : Command_value) (e : Effect) (cell : ℕ) → PlainEffect p state cells command e → cell_of command ≢ Some cell → slice_get e.cells cell ≡ slice_get cells cell }
+    ensures names { (p : ℕ) (state : SessionState) (cells : Cells) (command : Command_value) (e : Effect) (name : List ℕ)
+        → PlainEffect p state cells command e → target command ≢ Some name → e.state.names name ≡ state.names name }
+    ensures cells { (p : ℕ) (state : SessionState) (cells : Cells) (command : Command_value) (e : Effect) (cell : ℕ) → PlainEffect p state cells command e
+        → cell_of command ≢ Some cell → slice_get e.cells cell ≡ slice_get cells cell }
 {}

@@ -25,7 +25,8 @@ pub fn histories_tell_each_action()
 /// What a take, a peek or a swap that was done gives to its name is, sum included, the cord that the last put or swap before
 /// it, in the order of the history, brought into that cell: the cord that the name of that put or swap had then.
 pub fn taken_cords_were_put()
-    ensures { (sessions : List Session_value) (books : List Book_value) (history : List Entry_value) (done rest : List (ℕ × Line)) (p : ℕ) (line : Line) (name : List ℕ) (cell : ℕ) → IsPlainRun sessions books history
+    ensures { (sessions : List Session_value) (books : List Book_value) (history : List Entry_value) (done rest : List (ℕ × Line)) (p : ℕ) (line : Line)
+        (name : List ℕ) (cell : ℕ) → IsPlainRun sessions books history
         → run_order (length sessions) (lines_at sessions books) history ≡ done ++ (p, line) ∷ rest → Gets line name cell
         → (cord : CordState) × (cord_of (moment_after beginning (done ++ (p, line) ∷ [])) p name ≡ Some cord) × WasPut done cell cord }
 {}

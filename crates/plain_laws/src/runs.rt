@@ -30,17 +30,21 @@ pub fn appended_texts_are_printed()
 
 /// The order of a run has the lines of each session, once each and in their order, whatever the history.
 pub fn orders_have_each_line()
-    ensures { (sessions : List Session_value) (books : List Book_value) (history : List Entry_value) (p : ℕ) → lines_of p (run_order (length sessions) (lines_at sessions books) history) ≡ lines_at sessions books p }
+    ensures { (sessions : List Session_value) (books : List Book_value) (history : List Entry_value) (p : ℕ)
+        → lines_of p (run_order (length sessions) (lines_at sessions books) history) ≡ lines_at sessions books p }
 {}
 
 /// A script's answers follow from the history: two lists of books that are plain runs of it with the same history are the
 /// same.
 pub fn books_are_determined()
-    ensures { (sessions : List Session_value) (books others : List Book_value) (history : List Entry_value) → IsPlainRun sessions books history → IsPlainRun sessions others history → books ≡ others }
+    ensures { (sessions : List Session_value) (books others : List Book_value) (history : List Entry_value) → IsPlainRun sessions books history
+        → IsPlainRun sessions others history → books ≡ others }
 {}
 
 /// A session none of whose commands names a cell has the answers of its own plain run, whatever the others do.
 pub fn sessions_without_cells_run_alone()
-    ensures { (sessions : List Session_value) (books : List Book_value) (history : List Entry_value) (p : ℕ) (session : Session_value) (book : Book_value) → IsPlainRun sessions books history
-        → slice_get sessions p ≡ Some session → slice_get books p ≡ Some book → All (λ command. cell_of command ≡ None) session.commands → IsBookOf session book }
+    ensures { (sessions : List Session_value) (books : List Book_value) (history : List Entry_value) (p : ℕ) (session : Session_value) (book : Book_value)
+        → IsPlainRun sessions books history
+        → slice_get sessions p ≡ Some session → slice_get books p ≡ Some book → All (λ command. cell_of command ≡ None) session.commands
+        → IsBookOf session book }
 {}

@@ -63,6 +63,7 @@ impl PlainCord {
         Ok(PlainCord { bytes, sum: None })
     }
 
+    /// The bytes, borrowed.
     pub fn bytes(&self) -> &[u8]
         ensures bytes { result.now ≡ (state_of self.now).bytes }
         ensures short { length result.now ≤ MOST_BYTES }
@@ -70,6 +71,7 @@ impl PlainCord {
         self.bytes.as_slice()
     }
 
+    /// The expected sum, if there is one.
     pub fn sum(&self) -> Option<u32>
         ensures { result ≡ (state_of self.now).sum }
     {
@@ -79,7 +81,8 @@ impl PlainCord {
     // Adds a piece behind. Without bytes to add nothing changes.
     fn append(&mut self, piece: &[u8], times: u32) -> Result<Reply, AllocError>
         requires { length piece.now * times ≤ MOST_BYTES }
-        ensures ok { IfOk result (λ reply. Leaves (grown (state_of self.old) ((state_of self.old).bytes ++ repeated piece.now times)) (state_of self.new) reply) }
+        ensures ok { IfOk result
+            (λ reply. Leaves (grown (state_of self.old) ((state_of self.old).bytes ++ repeated piece.now times)) (state_of self.new) reply) }
         ensures err { OnErr result (state_of self.new ≡ state_of self.old) }
     {
         let added = piece.len() * times as usize;
@@ -99,7 +102,8 @@ impl PlainCord {
     // Adds a piece in front. Without bytes to add nothing changes.
     fn prepend(&mut self, piece: &[u8], times: u32) -> Result<Reply, AllocError>
         requires { length piece.now * times ≤ MOST_BYTES }
-        ensures ok { IfOk result (λ reply. Leaves (grown (state_of self.old) (repeated piece.now times ++ (state_of self.old).bytes)) (state_of self.new) reply) }
+        ensures ok { IfOk result
+            (λ reply. Leaves (grown (state_of self.old) (repeated piece.now times ++ (state_of self.old).bytes)) (state_of self.new) reply) }
         ensures err { OnErr result (state_of self.new ≡ state_of self.old) }
     {
         let added = piece.len() * times as usize;
@@ -119,7 +123,8 @@ impl PlainCord {
 
     // Adds the cord's own bytes behind them.
     fn double(&mut self) -> Result<Reply, AllocError>
-        ensures ok { IfOk result (λ reply. Leaves (grown (state_of self.old) ((state_of self.old).bytes ++ (state_of self.old).bytes)) (state_of self.new) reply) }
+        ensures ok { IfOk result
+            (λ reply. Leaves (grown (state_of self.old) ((state_of self.old).bytes ++ (state_of self.old).bytes)) (state_of self.new) reply) }
         ensures err { OnErr result (state_of self.new ≡ state_of self.old) }
     {
         let size = self.bytes.len();

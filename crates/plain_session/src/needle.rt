@@ -16,6 +16,7 @@ pub enum Needle<'b> {
 }
 
 impl<'b> Needle<'b> {
+    /// The bytes of the text; they are copied only where the text repeats its piece.
     pub fn of_text(alloc: Global, text: &'b Text) -> Result<Needle<'b>, AllocError>
         requires { IsShort 0 text.now }
         ensures { IfOk result (λ needle. needle_bytes needle ≡ text_bytes text.now) }
@@ -29,6 +30,7 @@ impl<'b> Needle<'b> {
         Ok(Needle::Built(bytes))
     }
 
+    /// The bytes, borrowed.
     pub fn as_slice(&self) -> &[u8]
         ensures { result.now ≡ needle_bytes self.now }
     {

@@ -40,6 +40,7 @@ pub fn byte_at(bytes: &[u8], i: u64) -> Reply
     }
 }
 
+/// The answer of `sum`.
 pub fn sum_reply(sum: Option<u32>) -> Reply
     ensures { result ≡ sum_or_none sum }
 {
@@ -61,6 +62,7 @@ pub fn place_reply(bytes: &[u8], needle: &[u8]) -> Reply
     }
 }
 
+/// The answer of `compare`.
 pub fn order_reply(a: &[u8], b: &[u8]) -> Reply
     ensures { result ≡ order_reply (slice_cmp nat_cmp a.now b.now) }
 {
@@ -71,6 +73,7 @@ pub fn order_reply(a: &[u8], b: &[u8]) -> Reply
     }
 }
 
+/// The answer of `starts` and `ends`.
 pub fn answer(yes: bool) -> Reply
     ensures { result ≡ yes_or_no yes }
 {

@@ -35,7 +35,8 @@ module _ {S : Type 0} (k : ℕ) (s : State S View) (id : ℕ) (v : View) (c : Li
         → Does (take id (number t) t) (world k s) false (world k (after_step t (found t) (noting (number t) v)))
     pub take : (t : Node) → number t < k → found t ≡ 0 → AreHeld (children t) v.holds
         → Does (take id (number t) t) (world k s) true (world k (after_step t 1 (taking t v)))
-    pub share : (t : Node) → k ≤ most_numbers → Occurs t v.holds → Does (share id (number t)) (world k s) true (world k (after_step t (found t + 1) (sharing t v)))
+    pub share : (t : Node) → k ≤ most_numbers → Occurs t v.holds
+        → Does (share id (number t)) (world k s) true (world k (after_step t (found t + 1) (sharing t v)))
     pub leave : (t : Node) → In t v.holds → Does (leave id (number t)) (world k s) true (world k (after_step t (found t - 1) (releasing (found t) t v)))
     pub counted : (w : View) → w.holds ≡ v.holds → Does (counted id) (world k s) true (world k (stepped s k (slice_index s.words k + 1) id c w keeps))
     pub uncounted : (w : View) → w.holds ≡ v.holds → slice_index s.words k ≢ 0

@@ -4,8 +4,8 @@ ghost use Rattle.node_forest.specs.Forest.{children};
 ghost use Rattle.pool_rule.specs.Trades.{Trades, SameHolds, HasHolds};
 ghost use Rattle.node_pool.specs.Opened.{opened_table, opened_numbers, opened_passes, opened_workers, opened_boxes};
 
-use node_pool::{Body, Closed, Edge, Left, Naming, Opened, PassLimit, Pool, TakeError, Worker};
 use cord_port::{LogReleaser, Releaser};
+use node_pool::{Body, Closed, Edge, Left, Naming, Opened, PassLimit, Pool, TakeError, Worker};
 use std::alloc::Global;
 use std::marker::Brand;
 use std::thread::{self, Threads};
@@ -312,11 +312,13 @@ fn shared_by_four<P: Naming + Send + Sync, R: Threads + Sync>(
     let (first, second) = thread::join(
         rt,
         move || -> ((Worker<P>, bool), (Worker<P>, bool))
-            requires { (children same.now ≡ []) × HasHolds a.holds (same.now ∷ []) × (length a.holds < 200) × HasHolds b.holds (same.now ∷ []) × (length b.holds < 200) }
+            requires { (children same.now ≡ []) × HasHolds a.holds (same.now ∷ []) × (length a.holds < 200) × HasHolds b.holds (same.now ∷ [])
+                × (length b.holds < 200) }
             ensures { SameHolds a.holds result.0.0.holds × SameHolds b.holds result.1.0.holds }
         { two(rt, alloc, shared, a, b, same) },
         move || -> ((Worker<P>, bool), (Worker<P>, bool))
-            requires { (children same.now ≡ []) × HasHolds c.holds (same.now ∷ []) × (length c.holds < 200) × HasHolds d.holds (same.now ∷ []) × (length d.holds < 200) }
+            requires { (children same.now ≡ []) × HasHolds c.holds (same.now ∷ []) × (length c.holds < 200) × HasHolds d.holds (same.now ∷ [])
+                × (length d.holds < 200) }
             ensures { SameHolds c.holds result.0.0.holds × SameHolds d.holds result.1.0.holds }
         { two(rt, alloc, shared, c, d, same) },
     );

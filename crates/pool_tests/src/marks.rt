@@ -10,11 +10,11 @@ ghost use Rattle.pool_rule.specs.Marks.{IsLonePath};
 ghost use Rattle.pool_rule.specs.Trades.{HasHolds, Trades};
 ghost use Rattle.node_pool.specs.Opened.{opened_table, opened_numbers, opened_passes, opened_workers, opened_boxes};
 
+use cord_port::LogReleaser;
 use node_pool::{
     Body, Change, Closed, Edge, Left, Naming, Opened, Pool, Side, Worker,
     paths_that_looks_find_are_lone,
 };
-use cord_port::LogReleaser;
 use pool_rule::held_edges_may_come;
 use std::alloc::Global;
 use std::marker::Brand;

@@ -5,8 +5,8 @@ ghost use Rattle.node_edges.specs.Ways.{branches_down};
 ghost use Rattle.pool_rule.specs.Trades.{HasHolds, Trades};
 ghost use Rattle.node_pool.specs.Opened.{opened_table, opened_numbers, opened_passes, opened_workers, opened_boxes};
 
-use node_pool::{Body, Closed, Edge, Naming, Opened, Pool, PoolRefused, Worker};
 use cord_port::{LogReleaser, Releaser};
+use node_pool::{Body, Closed, Edge, Naming, Opened, Pool, PoolRefused, Worker};
 use std::alloc::Global;
 use std::marker::Brand;
 

@@ -5,8 +5,8 @@ ghost use Rattle.pool_rule.specs.Trades.{Trades};
 ghost use Rattle.cord_port.specs.Logs.{log_calls};
 ghost use Rattle.node_pool.specs.Opened.{opened_table, opened_numbers, opened_passes, opened_workers, opened_boxes};
 
-use node_pool::{Body, Edge, Naming, Opened, Pool, TakeError, Worker};
 use cord_port::LogReleaser;
+use node_pool::{Body, Edge, Naming, Opened, Pool, TakeError, Worker};
 use std::alloc::Global;
 use std::marker::Brand;
 

@@ -8,11 +8,11 @@ ghost use Rattle.node_edges.specs.Ways.{branches_down};
 ghost use Rattle.pool_rule.specs.Trades.{HasHolds, Trades};
 ghost use Rattle.node_pool.specs.Opened.{opened_table, opened_numbers, opened_passes, opened_workers, opened_boxes};
 
+use cord_port::LogReleaser;
 use node_pool::{
     Body, Change, Closed, Edge, Left, Naming, Opened, Pool, TakeError, Worker,
     paths_that_looks_find_are_lone,
 };
-use cord_port::LogReleaser;
 use std::alloc::Global;
 use std::marker::Brand;
 

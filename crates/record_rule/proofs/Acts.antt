@@ -83,24 +83,25 @@ module _ {S : Type 0} (tree_of : S → Node) (fits : S → Type 0) where
         let unborn = a.world.unborn stamp (omega arith) in
         let log : List LogEntry = entry_of p place (Reserve s stamp) ∷ g.log in
         let grows = grows_moved g by log q s (Promised stamp) stamp s true [] f (inl free.0) (inl (sym unborn.0)) (λ shut. absurd (let z : true ≡ false = sym unborn.1 ∙ shut in cc)) in
-        let here : stamp_in (Reserves s ∷ history g.log) s ≡ stamp = ap (λ b. cond b (stamps_given (history g.log) + 1) (stamp_in (history g.log) s)) (eq-eqb s s refl) ∙ sym new in
-        (moved g by log q s (Promised stamp) stamp s true [],
-        world_moved tree_of fits g values (set values 0 (Lists q)) views by (Token p) (Token (done place (Reserve s stamp) p)) log q s (Promised stamp) stamp s true [] a.world a.seen f
-          (set_there values 0 _ _ a.world.first)
-          (deed_room (Reserve s stamp) p.own (history g.log) a.few)
-          (λ t not. (later_records values q t, m.others t not, ap (λ b. cond b (stamps_given (history g.log) + 1) (stamp_in (history g.log) t)) (ne_eqb t s not)))
-          (λ t not same. absurd (let z = stamp_given (history g.log) t in omega arith))
-          (record {
-            rep = o.rep;
-            at = later_records values q s ∙ o.at;
-            is = subst (λ (z : Claim). IsSlot tree_of fits z (state_of q s) s (stamp_in (Reserves s ∷ history g.log) s) (changed g.slot stamp s (stamp_in (Reserves s ∷ history g.log) s)) (changed g.live stamp true (stamp_in (Reserves s ∷ history g.log) s)) (changed g.notes stamp [] (stamp_in (Reserves s ∷ history g.log) s)) o.rep)
-                (sym (changed_here g.claims s s (Promised stamp) refl))
-                (m.state, changed_here g.live stamp _ true here, sym here, changed_here g.slot stamp _ s here, changed_here g.notes stamp _ [] here, free.1);
-          })
-          tt (omega arith) grows
-          (token_moved g by log q s (Promised stamp) stamp s true [] p (entry_of p place (Reserve s stamp) ∷ p.own) p.untracked k grows a.does.0 (owned (Reserve s stamp) q a)
-            (deed_walk (Reserve s stamp) p g.registry q (history g.log) a.world.replays a.answer a.does k.walk)
-            (untracked_stay (λ j. j ≡ by) g (moved g by log q s (Promised stamp) stamp s true []) grows p.untracked k.untracked)))
+        let here : stamp_in (Reserves s ∷ history g.log) s ≡ stamp = ap (λ b. cond b (stamps_given (history g.log) + 1) (stamp_in (history g.log) s)) (eq-eqb s s refl) ∙ sym new in (
+          moved g by log q s (Promised stamp) stamp s true [],
+          world_moved tree_of fits g values (set values 0 (Lists q)) views by (Token p) (Token (done place (Reserve s stamp) p)) log q s (Promised stamp) stamp s true [] a.world a.seen f
+              (set_there values 0 _ _ a.world.first)
+              (deed_room (Reserve s stamp) p.own (history g.log) a.few)
+              (λ t not. (later_records values q t, m.others t not, ap (λ b. cond b (stamps_given (history g.log) + 1) (stamp_in (history g.log) t)) (ne_eqb t s not)))
+              (λ t not same. absurd (let z = stamp_given (history g.log) t in omega arith))
+              (record {
+                rep = o.rep;
+                at = later_records values q s ∙ o.at;
+                is = subst (λ (z : Claim). IsSlot tree_of fits z (state_of q s) s (stamp_in (Reserves s ∷ history g.log) s) (changed g.slot stamp s (stamp_in (Reserves s ∷ history g.log) s)) (changed g.live stamp true (stamp_in (Reserves s ∷ history g.log) s)) (changed g.notes stamp [] (stamp_in (Reserves s ∷ history g.log) s)) o.rep)
+                    (sym (changed_here g.claims s s (Promised stamp) refl))
+                    (m.state, changed_here g.live stamp _ true here, sym here, changed_here g.slot stamp _ s here, changed_here g.notes stamp _ [] here, free.1);
+              })
+              tt (omega arith) grows
+              (token_moved g by log q s (Promised stamp) stamp s true [] p (entry_of p place (Reserve s stamp) ∷ p.own) p.untracked k grows a.does.0 (owned (Reserve s stamp) q a)
+              (deed_walk (Reserve s stamp) p g.registry q (history g.log) a.world.replays a.answer a.does k.walk)
+              (untracked_stay (λ j. j ≡ by) g (moved g by log q s (Promised stamp) stamp s true []) grows p.untracked k.untracked)),
+        )
 
     -- a deed on a slot that the token has a claim on
     pub record On (d : Deed) (q : Contents) (s : ℕ) (c : Claim) (lives : Bool) (us : List (ℕ × List Noted)) : Type 0 where
@@ -127,25 +128,26 @@ module _ {S : Type 0} (tree_of : S → Node) (fits : S → Type 0) where
         let list : List Noted = g.notes stamp in
         let at : ℕ = g.slot stamp in
         let grows = grows_moved g by log q s c stamp at lives list f (inr on.owner) (inl refl) (λ shut. (on.shut shut, refl)) in
-        let w : TokenView = record { number = p.number; own = entry_of p place d ∷ p.own; claims = (s, c) ∷ p.claims; reads = p.reads; untracked = us; shown = p.shown } in
-        (moved g by log q s c stamp at lives list,
-        subst (λ (z : TokenView). IsWorld tree_of fits (moved g by log q s c stamp at lives list) (set values 0 (Lists q)) (set views by (Some (Token z)))) (sym on.clauses)
-        (world_moved tree_of fits g values (set values 0 (Lists q)) views by (Token p) (Token w) log q s c stamp at lives list a.world a.seen f
-          (set_there values 0 _ _ a.world.first)
-          (deed_room d p.own (history g.log) a.few)
-          (λ t not. (later_records values q t, on.moves.others t not, on.stamps t))
-          (λ t not same here. not (sym here ∙ on.at))
-          (record {
-            rep = on.rep;
-            at = later_records values q s ∙ on.there;
-            is = subst (λ (z : Claim × SlotState × ℕ). IsSlot tree_of fits z.0 z.1 s z.2 (changed g.slot stamp at z.2) (changed g.live stamp lives z.2) (changed g.notes stamp list z.2) on.rep)
-                (λ i. (sym (changed_here g.claims s s c refl) i, sym on.moves.state i, sym (on.stamps s) i))
-                (subst (λ (z : ℕ × Bool × List Noted). IsSlot tree_of fits c on.to s stamp z.0 z.1 z.2 on.rep) (λ i. (sym (changed_here g.slot stamp stamp at refl) i, sym (changed_here g.live stamp stamp lives refl) i, sym (changed_here g.notes stamp stamp list refl) i)) on.is);
-          })
-          (a.world.notes stamp) (let z = stamp_given (history g.log) s in let y = f.stamps in omega arith) grows
-          (token_moved g by log q s c stamp at lives list p (entry_of p place d ∷ p.own) us k grows on.small (owned d q a)
-            (deed_walk d p g.registry q (history g.log) a.world.replays a.answer a.does k.walk)
-            on.untracked)))
+        let w : TokenView = record { number = p.number; own = entry_of p place d ∷ p.own; claims = (s, c) ∷ p.claims; reads = p.reads; untracked = us; shown = p.shown } in (
+          moved g by log q s c stamp at lives list,
+          subst (λ (z : TokenView). IsWorld tree_of fits (moved g by log q s c stamp at lives list) (set values 0 (Lists q)) (set views by (Some (Token z)))) (sym on.clauses)
+              (world_moved tree_of fits g values (set values 0 (Lists q)) views by (Token p) (Token w) log q s c stamp at lives list a.world a.seen f
+              (set_there values 0 _ _ a.world.first)
+              (deed_room d p.own (history g.log) a.few)
+              (λ t not. (later_records values q t, on.moves.others t not, on.stamps t))
+              (λ t not same here. not (sym here ∙ on.at))
+              (record {
+                rep = on.rep;
+                at = later_records values q s ∙ on.there;
+                is = subst (λ (z : Claim × SlotState × ℕ). IsSlot tree_of fits z.0 z.1 s z.2 (changed g.slot stamp at z.2) (changed g.live stamp lives z.2) (changed g.notes stamp list z.2) on.rep)
+                    (λ i. (sym (changed_here g.claims s s c refl) i, sym on.moves.state i, sym (on.stamps s) i))
+                    (subst (λ (z : ℕ × Bool × List Noted). IsSlot tree_of fits c on.to s stamp z.0 z.1 z.2 on.rep) (λ i. (sym (changed_here g.slot stamp stamp at refl) i, sym (changed_here g.live stamp stamp lives refl) i, sym (changed_here g.notes stamp stamp list refl) i)) on.is);
+              })
+              (a.world.notes stamp) (let z = stamp_given (history g.log) s in let y = f.stamps in omega arith) grows
+              (token_moved g by log q s c stamp at lives list p (entry_of p place d ∷ p.own) us k grows on.small (owned d q a)
+              (deed_walk d p g.registry q (history g.log) a.world.replays a.answer a.does k.walk)
+              on.untracked)),
+        )
 
     -- the slot of a claim that is not nothing
     mine : (d : Deed) (q : Contents) (s : ℕ) (c : Claim) → Doing g values views by p place d q → claim_at p.claims s ≡ c → c ≢ Nothing → Has g by s c
@@ -161,7 +163,7 @@ module _ {S : Type 0} (tree_of : S → Node) (fits : S → Type 0) where
     untracked_same d q s c lives a h shut =
         let stamp : ℕ = stamp_in (history g.log) s in
         untracked_stay (λ j. j ≡ by) g (moved g by (entry_of p place d ∷ g.log) q s c stamp (g.slot stamp) lives (g.notes stamp))
-            (grows_moved g by (entry_of p place d ∷ g.log) q s c stamp (g.slot stamp) lives (g.notes stamp) (follows d q a) (inr h.1) (inl refl) (λ z. (shut z, refl))) p.untracked (token d q a).untracked
+        (grows_moved g by (entry_of p place d ∷ g.log) q s c stamp (g.slot stamp) lives (g.notes stamp) (follows d q a) (inr h.1) (inl refl) (λ z. (shut z, refl))) p.untracked (token d q a).untracked
 
     pub frees : (s : ℕ) (q : Contents) → Doing g values views by p place (Free s) q → (c : Claim) → claim_at p.claims s ≡ c → MayFree c → Done values views by (Token (done place (Free s) p)) q
     frees s q a Nothing e may = absurd may
@@ -173,7 +175,15 @@ module _ {S : Type 0} (tree_of : S → Node) (fits : S → Type 0) where
         let h = mine (Free s) q s (Promised own) a e (λ z. cc) in
         let o = slot_of (Free s) q s (Promised own) a h in
         acts_on (Free s) q s Nothing (g.live (stamp_in (history g.log) s)) p.untracked a record {
-          small = h.0; owner = h.1; at = o.2.3; shut = λ z. z; to = IsFree; moves = a.does.1; stamps = λ t. refl; rep = o.0; there = o.1;
+          small = h.0;
+          owner = h.1;
+          at = o.2.3;
+          shut = λ z. z;
+          to = IsFree;
+          moves = a.does.1;
+          stamps = λ t. refl;
+          rep = o.0;
+          there = o.1;
           is = inl (refl, o.2.5);
           untracked = untracked_same (Free s) q s Nothing (g.live (stamp_in (history g.log) s)) a (subst (Has g by s) (sym e) h) (λ z. z);
           clauses = refl;
@@ -182,7 +192,15 @@ module _ {S : Type 0} (tree_of : S → Node) (fits : S → Type 0) where
         let h = mine (Free s) q s Emptied a e (λ z. cc) in
         let o = slot_of (Free s) q s Emptied a h in
         acts_on (Free s) q s Nothing (g.live (stamp_in (history g.log) s)) p.untracked a record {
-          small = h.0; owner = h.1; at = o.2.1; shut = λ z. z; to = IsFree; moves = a.does.1; stamps = λ t. refl; rep = o.0; there = o.1;
+          small = h.0;
+          owner = h.1;
+          at = o.2.1;
+          shut = λ z. z;
+          to = IsFree;
+          moves = a.does.1;
+          stamps = λ t. refl;
+          rep = o.0;
+          there = o.1;
           is = inl (refl, o.2.2);
           untracked = untracked_same (Free s) q s Nothing (g.live (stamp_in (history g.log) s)) a (subst (Has g by s) (sym e) h) (λ z. z);
           clauses = refl;
@@ -199,7 +217,15 @@ module _ {S : Type 0} (tree_of : S → Node) (fits : S → Type 0) where
         let h = mine (Track s) q s (Written own ns) a e (λ z. cc) in
         let o = slot_of (Track s) q s (Written own ns) a h in
         acts_on (Track s) q s (Owned own ns false) (g.live (stamp_in (history g.log) s)) p.untracked a record {
-          small = h.0; owner = h.1; at = o.2.5.0; shut = λ z. z; to = Linked; moves = a.does.1; stamps = λ t. refl; rep = o.0; there = o.1;
+          small = h.0;
+          owner = h.1;
+          at = o.2.5.0;
+          shut = λ z. z;
+          to = Linked;
+          moves = a.does.1;
+          stamps = λ t. refl;
+          rep = o.0;
+          there = o.1;
           is = (refl, o.2.1, o.2.2, o.2.3, sym o.2.4, o.2.5);
           untracked = untracked_same (Track s) q s (Owned own ns false) (g.live (stamp_in (history g.log) s)) a (subst (Has g by s) (sym e) h) (λ z. z);
           clauses = ap (λ (z : Claim). record { number = p.number; own = entry_of p place (Track s) ∷ p.own; claims = (s, linked_claim z) ∷ p.claims; reads = p.reads; untracked = p.untracked; shown = p.shown }) e;
@@ -217,7 +243,15 @@ module _ {S : Type 0} (tree_of : S → Node) (fits : S → Type 0) where
         let o = slot_of (Unlink s) q s (Owned own ns bare) a h in
         let stamp : ℕ = stamp_in (history g.log) s in
         acts_on (Unlink s) q s (Unlinked own bare) false ((own, ns) ∷ p.untracked) a record {
-          small = h.0; owner = h.1; at = o.2.5.0; shut = λ z. refl; to = Leaving; moves = a.does.1; stamps = λ t. refl; rep = o.0; there = o.1;
+          small = h.0;
+          owner = h.1;
+          at = o.2.5.0;
+          shut = λ z. refl;
+          to = Leaving;
+          moves = a.does.1;
+          stamps = λ t. refl;
+          rep = o.0;
+          there = o.1;
           is = (refl, refl, o.2.2, o.2.4, o.2.5);
           untracked = (changed_here g.live stamp own false o.2.2, changed_here g.notes stamp own (g.notes stamp) o.2.2 ∙ sym o.2.3, untracked_same (Unlink s) q s (Unlinked own bare) false a (subst (Has g by s) (sym e) h) (λ z. refl));
           clauses = ap (λ (z : Claim). record { number = p.number; own = entry_of p place (Unlink s) ∷ p.own; claims = (s, unlinked_claim z) ∷ p.claims; reads = p.reads; untracked = untracked_by z p.untracked; shown = p.shown }) e;
@@ -234,7 +268,15 @@ module _ {S : Type 0} (tree_of : S → Node) (fits : S → Type 0) where
         let h = mine (Settle s Deleted) q s (Unlinked own bare) a e (λ z. cc) in
         let o = slot_of (Settle s Deleted) q s (Unlinked own bare) a h in
         acts_on (Settle s Deleted) q s (Cleared (Some bare)) (g.live (stamp_in (history g.log) s)) p.untracked a record {
-          small = h.0; owner = h.1; at = o.2.4.0; shut = λ z. z; to = Clearing; moves = a.does.1; stamps = λ t. refl; rep = o.0; there = o.1;
+          small = h.0;
+          owner = h.1;
+          at = o.2.4.0;
+          shut = λ z. z;
+          to = Clearing;
+          moves = a.does.1;
+          stamps = λ t. refl;
+          rep = o.0;
+          there = o.1;
           is = (refl, o.2.1, o.2.3, o.2.4);
           untracked = untracked_same (Settle s Deleted) q s (Cleared (Some bare)) (g.live (stamp_in (history g.log) s)) a (subst (Has g by s) (sym e) h) (λ z. z);
           clauses = ap (λ (z : Claim). record { number = p.number; own = entry_of p place (Settle s Deleted) ∷ p.own; claims = (s, settled_claim Deleted z) ∷ p.claims; reads = p.reads; untracked = p.untracked; shown = p.shown }) e;
@@ -243,7 +285,15 @@ module _ {S : Type 0} (tree_of : S → Node) (fits : S → Type 0) where
         let h = mine (Settle s Queued) q s (Unlinked own bare) a e (λ z. cc) in
         let o = slot_of (Settle s Queued) q s (Unlinked own bare) a h in
         acts_on (Settle s Queued) q s Nothing (g.live (stamp_in (history g.log) s)) p.untracked a record {
-          small = h.0; owner = h.1; at = o.2.4.0; shut = λ z. z; to = Waits; moves = a.does.1; stamps = λ t. refl; rep = o.0; there = o.1;
+          small = h.0;
+          owner = h.1;
+          at = o.2.4.0;
+          shut = λ z. z;
+          to = Waits;
+          moves = a.does.1;
+          stamps = λ t. refl;
+          rep = o.0;
+          there = o.1;
           is = inr (refl, o.2.1, o.2.4);
           untracked = untracked_same (Settle s Queued) q s Nothing (g.live (stamp_in (history g.log) s)) a (subst (Has g by s) (sym e) h) (λ z. z);
           clauses = refl;

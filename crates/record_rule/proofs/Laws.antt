@@ -88,20 +88,20 @@ module _ {S : Type 0} (tree_of : S → Node) (fits : S → Type 0) where
       → Stands tree_of fits spots (slice_set views by (Some a) ++ Some b ∷ [])
   splits spots views by v a b s seen r = ⊎_elim
       (λ (t : Gives v a b).
-        let d = gives tree_of fits s.facts (map value_of spots) views by t.given t.back s.world (seen ∙ ap (λ z. some (Some z)) t.before) t.few in
-        record { facts = d.0; world = subst (λ (z : DeskView × DeskView). IsWorld tree_of fits d.0 (map value_of spots) (set views by (Some z.0) ++ Some z.1 ∷ [])) (λ i. (sym t.kept i, sym t.new i)) d.1 })
+      let d = gives tree_of fits s.facts (map value_of spots) views by t.given t.back s.world (seen ∙ ap (λ z. some (Some z)) t.before) t.few in
+      record { facts = d.0; world = subst (λ (z : DeskView × DeskView). IsWorld tree_of fits d.0 (map value_of spots) (set views by (Some z.0) ++ Some z.1 ∷ [])) (λ i. (sym t.kept i, sym t.new i)) d.1 })
       (λ (t : Issues v a b).
-        let d = issues tree_of fits s.facts (map value_of spots) views by t.slot t.stamp t.notes t.bare t.token s.world (seen ∙ ap (λ z. some (Some z)) t.before) t.claim in
-        record { facts = d.0; world = subst (λ (z : DeskView × DeskView). IsWorld tree_of fits d.0 (map value_of spots) (set views by (Some z.0) ++ Some z.1 ∷ [])) (λ i. (sym t.kept i, sym t.new i)) d.1 })
+      let d = issues tree_of fits s.facts (map value_of spots) views by t.slot t.stamp t.notes t.bare t.token s.world (seen ∙ ap (λ z. some (Some z)) t.before) t.claim in
+      record { facts = d.0; world = subst (λ (z : DeskView × DeskView). IsWorld tree_of fits d.0 (map value_of spots) (set views by (Some z.0) ++ Some z.1 ∷ [])) (λ i. (sym t.kept i, sym t.new i)) d.1 })
       r
 
   pub merges : (spots : List (Spot (DeskValue S))) (views : List (Option DeskView)) (by other : ℕ) (v w both : DeskView) → Stands tree_of fits spots views → get_elem? views by ≡ some (Some v) → ¬ (other ≡ by) → get_elem? views other ≡ some (Some w) → Merges v w both
       → Stands tree_of fits spots (slice_set (slice_set views by (Some both)) other None)
   merges spots views by other v w both s seen apart seen' r = ⊎_elim
       (λ (t : Returns v w both).
-        let d = returns tree_of fits s.facts (map value_of spots) views by other t.given t.back t.token s.world (seen ∙ ap (λ z. some (Some z)) t.before) apart (seen' ∙ ap (λ z. some (Some z)) t.other) in
-        record { facts = d.0; world = subst (λ (z : DeskView). IsWorld tree_of fits d.0 (map value_of spots) (set (set views by (Some z)) other None)) (sym t.after) d.1 })
+      let d = returns tree_of fits s.facts (map value_of spots) views by other t.given t.back t.token s.world (seen ∙ ap (λ z. some (Some z)) t.before) apart (seen' ∙ ap (λ z. some (Some z)) t.other) in
+      record { facts = d.0; world = subst (λ (z : DeskView). IsWorld tree_of fits d.0 (map value_of spots) (set (set views by (Some z)) other None)) (sym t.after) d.1 })
       (λ (t : Redeems v w both).
-        let d = redeems tree_of fits s.facts (map value_of spots) views by other t.slot t.stamp t.notes t.bare t.token s.world (seen ∙ ap (λ z. some (Some z)) t.before) apart (seen' ∙ ap (λ z. some (Some z)) t.other) in
-        record { facts = d.0; world = subst (λ (z : DeskView). IsWorld tree_of fits d.0 (map value_of spots) (set (set views by (Some z)) other None)) (sym t.after) d.1 })
+      let d = redeems tree_of fits s.facts (map value_of spots) views by other t.slot t.stamp t.notes t.bare t.token s.world (seen ∙ ap (λ z. some (Some z)) t.before) apart (seen' ∙ ap (λ z. some (Some z)) t.other) in
+      record { facts = d.0; world = subst (λ (z : DeskView). IsWorld tree_of fits d.0 (map value_of spots) (set (set views by (Some z)) other None)) (sym t.after) d.1 })
       r

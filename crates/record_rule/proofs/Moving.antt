@@ -101,7 +101,7 @@ module _ (g : Facts) (by : ℕ) (log : List LogEntry) (registry : Contents) (s :
   claim_moved p k small t = dite (ℕ_discrete t s)
       (λ is. inr (subst (λ (z : ℕ). z < 256) (sym is) small, changed_here g.owner s t by is, changed_here g.claims s t c is ∙ sym (ap (λ b. cond b c (claim_at p.claims t)) (eq-eqb t s is))))
       (λ not. subst (λ (z : Claim). (z ≡ Nothing) ⊎ Has Next by t z) (sym (ap (λ b. cond b c (claim_at p.claims t)) (ne_eqb t s not)))
-          (⊎_elim (λ none. inl none) (λ h. inr (h.0, changed_else g.owner s t by not ∙ h.1, changed_else g.claims s t c not ∙ h.2)) (k.claims t)))
+      (⊎_elim (λ none. inl none) (λ h. inr (h.0, changed_else g.owner s t by not ∙ h.1, changed_else g.claims s t c not ∙ h.2)) (k.claims t)))
 
   -- the token whose step it was
   pub token_moved : (p : TokenView) (own : List LogEntry) (us : List (ℕ × List Noted)) → IsToken g by p → Grows (λ j. j ≡ by) g Next → s < 256 → of_token p.number log ≡ own

@@ -60,7 +60,7 @@ module _ {S : Type 0} (tree_of : S → Node) (fits : S → Type 0) where
       → IsSlot tree_of fits c' state' s stamp' (changed slot t at stamp') (changed live t lives stamp') (changed notes t list stamp') r
   slot_other c c' state state' s stamp stamp' slot live notes t at lives list r e f a apart k = dite (ℕ_discrete stamp t)
       (λ is. subst (λ (z : Claim × SlotState × ℕ). IsSlot tree_of fits z.0 z.1 s z.2 (changed slot t at z.2) (changed live t lives z.2) (changed notes t list z.2) r) (λ i. (sym e i, sym f i, sym a i))
-          (slot_apart c state s stamp (slot stamp) (changed slot t at stamp) (live stamp) (changed live t lives stamp) (notes stamp) (changed notes t list stamp) r (apart is) k))
+      (slot_apart c state s stamp (slot stamp) (changed slot t at stamp) (live stamp) (changed live t lives stamp) (notes stamp) (changed notes t list stamp) r (apart is) k))
       (λ not. subst (λ (z : Claim × SlotState × ℕ). IsSlot tree_of fits z.0 z.1 s z.2 (changed slot t at z.2) (changed live t lives z.2) (changed notes t list z.2) r) (λ i. (sym e i, sym f i, sym a i))
-          (slot_same c c state state s stamp stamp (slot stamp) (changed slot t at stamp) (live stamp) (changed live t lives stamp) (notes stamp) (changed notes t list stamp) r refl refl refl
-            (changed_else slot t stamp at not) (changed_else live t stamp lives not) (changed_else notes t stamp list not) k))
+      (slot_same c c state state s stamp stamp (slot stamp) (changed slot t at stamp) (live stamp) (changed live t lives stamp) (notes stamp) (changed notes t list stamp) r refl refl refl
+      (changed_else slot t stamp at not) (changed_else live t stamp lives not) (changed_else notes t stamp list not) k))

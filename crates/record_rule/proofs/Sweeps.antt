@@ -122,7 +122,7 @@ module _ {S : Type 0} (tree_of : S → Node) (fits : S → Type 0) where
         claims_after k t = ⊎_elim
             (λ is. inr ((sweep.waited t is).0, cond_true (has t gone) by (g.owner t) is, cond_true (has t gone) (Cleared None) (g.claims t) is ∙ sym (cond_true (has t gone) (Cleared None) (claim_at p.claims t) is)))
             (λ not. ⊎_elim (λ none. inl (cond_false (has t gone) (Cleared None) (claim_at p.claims t) not ∙ none))
-              (λ h. inr (h.0, cond_false (has t gone) by (g.owner t) not ∙ h.1, cond_false (has t gone) (Cleared None) (g.claims t) not ∙ (h.2 ∙ sym (cond_false (has t gone) (Cleared None) (claim_at p.claims t) not)))) (k.claims t))
+            (λ h. inr (h.0, cond_false (has t gone) by (g.owner t) not ∙ h.1, cond_false (has t gone) (Cleared None) (g.claims t) not ∙ (h.2 ∙ sym (cond_false (has t gone) (Cleared None) (claim_at p.claims t) not)))) (k.claims t))
             (true_or_false (has t gone))
 
         slots : (t : ℕ) → t < 256 → HasSlot tree_of fits (Next d q gone) (set values 0 (Lists q)) t
@@ -131,12 +131,12 @@ module _ {S : Type 0} (tree_of : S → Node) (fits : S → Type 0) where
           at = set_else values 0 (t + 1) (Lists q) (λ e. omega arith) ∙ o.at;
           is = ⊎_elim
               (λ is. let n = sweep.waited t is in
-                slot_same tree_of fits (Cleared None) (cond (has t gone) (Cleared None) (g.claims t)) Clearing (state_of q t) t (stamp_in (history g.log) t) (stamp_in (after_deed d (history g.log)) t) _ _ _ _ _ _ o.rep
-                  (cond_true (has t gone) (Cleared None) (g.claims t) is) n.2 (stamps t) (ap g.slot (stamps t)) (ap g.live (stamps t)) (ap g.notes (stamps t))
-                  (waits_claim (g.claims t) (state_of g.registry t) t (stamp_in (history g.log) t) (g.slot (stamp_in (history g.log) t)) (g.live (stamp_in (history g.log) t)) (g.notes (stamp_in (history g.log) t)) o.rep n.1 o.is).1)
+              slot_same tree_of fits (Cleared None) (cond (has t gone) (Cleared None) (g.claims t)) Clearing (state_of q t) t (stamp_in (history g.log) t) (stamp_in (after_deed d (history g.log)) t) _ _ _ _ _ _ o.rep
+              (cond_true (has t gone) (Cleared None) (g.claims t) is) n.2 (stamps t) (ap g.slot (stamps t)) (ap g.live (stamps t)) (ap g.notes (stamps t))
+              (waits_claim (g.claims t) (state_of g.registry t) t (stamp_in (history g.log) t) (g.slot (stamp_in (history g.log) t)) (g.live (stamp_in (history g.log) t)) (g.notes (stamp_in (history g.log) t)) o.rep n.1 o.is).1)
               (λ not.
-                slot_same tree_of fits (g.claims t) (cond (has t gone) (Cleared None) (g.claims t)) (state_of g.registry t) (state_of q t) t (stamp_in (history g.log) t) (stamp_in (after_deed d (history g.log)) t) _ _ _ _ _ _ o.rep
-                  (cond_false (has t gone) (Cleared None) (g.claims t) not) (sweep.others t not) (stamps t) (ap g.slot (stamps t)) (ap g.live (stamps t)) (ap g.notes (stamps t)) o.is)
+              slot_same tree_of fits (g.claims t) (cond (has t gone) (Cleared None) (g.claims t)) (state_of g.registry t) (state_of q t) t (stamp_in (history g.log) t) (stamp_in (after_deed d (history g.log)) t) _ _ _ _ _ _ o.rep
+              (cond_false (has t gone) (Cleared None) (g.claims t) not) (sweep.others t not) (stamps t) (ap g.slot (stamps t)) (ap g.live (stamps t)) (ap g.notes (stamps t)) o.is)
               (true_or_false (has t gone));
         }
 

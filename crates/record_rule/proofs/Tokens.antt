@@ -40,9 +40,9 @@ merge_views : (g k : Facts) (views : List (Option DeskView)) (by other : ℕ) (w
 merge_views g k views by other w grows mine each j v e = ⊎_elim
     (λ (t : (j ≡ other) × (None ≡ v)). subst (λ (z : Option DeskView). Fits k j z) t.1 tt)
     (λ (t : (j ≢ other) × (get_elem? (set views by w) j ≡ some v)). ⊎_elim
-      (λ (u : (j ≡ by) × (w ≡ v)). subst (λ (z : ℕ × Option DeskView). Fits k z.0 z.1) (λ i. (sym u.0 i, u.1 i)) mine)
-      (λ (u : (j ≢ by) × (get_elem? views j ≡ some v)). stays (λ i. (i ≡ by) ⊎ (i ≡ other)) g k grows j v (λ h. ⊎_elim u.0 t.0 h) (each j v u.1))
-      (at_set views by j w v t.1))
+    (λ (u : (j ≡ by) × (w ≡ v)). subst (λ (z : ℕ × Option DeskView). Fits k z.0 z.1) (λ i. (sym u.0 i, u.1 i)) mine)
+    (λ (u : (j ≢ by) × (get_elem? views j ≡ some v)). stays (λ i. (i ≡ by) ⊎ (i ≡ other)) g k grows j v (λ h. ⊎_elim u.0 t.0 h) (each j v u.1))
+    (at_set views by j w v t.1))
     (at_set (set views by w) other j None v e)
 
 -- the seat `other` is joined to `by`
@@ -138,16 +138,19 @@ seated g new = record {
 
 tokens_seated : (g : Facts) (by new : ℕ) (ps : List TokenView) → AreTokens g by ps → AreTokens (seated g new) by ps
 tokens_seated g by new [] k = tt
-tokens_seated g by new (p ∷ ps) k = (record {
-  seat = changed_else g.seat g.given p.number new (λ e. let n = k.0.given in omega arith) ∙ k.0.seat;
-  given = (let n = k.0.given in omega arith);
-  own = k.0.own;
-  claims = k.0.claims;
-  walk = k.0.walk;
-  reads = k.0.reads;
-  untracked = k.0.untracked;
-  shown = k.0.shown;
-}, tokens_seated g by new ps k.1)
+tokens_seated g by new (p ∷ ps) k = (
+  record {
+    seat = changed_else g.seat g.given p.number new (λ e. let n = k.0.given in omega arith) ∙ k.0.seat;
+    given = (let n = k.0.given in omega arith);
+    own = k.0.own;
+    claims = k.0.claims;
+    walk = k.0.walk;
+    reads = k.0.reads;
+    untracked = k.0.untracked;
+    shown = k.0.shown;
+  },
+  tokens_seated g by new ps k.1,
+)
 
 -- a ticket goes to a seat of its own
 abbrev issued : Facts → ℕ → ℕ → Facts
@@ -177,7 +180,7 @@ module _ {S : Type 0} (tree_of : S → Node) (fits : S → Type 0) where
     at = o.at;
     is = subst (λ (z : List Rattle.record_rule.specs.declared.views.LogEntry.LogEntry × Rattle.cordz_core.specs.Contents.Contents × (ℕ → Claim) × (ℕ → List Noted) × (ℕ → Bool) × (ℕ → ℕ)).
         Rattle.record_rule.specs.World.IsSlot tree_of fits (z.2 s) (Rattle.cordz_core.specs.Contents.state_of z.1 s) s (Rattle.cordz_core.specs.History.stamp_in (Rattle.record_rule.specs.Log.history z.0) s)
-          (z.5 (Rattle.cordz_core.specs.History.stamp_in (Rattle.record_rule.specs.Log.history z.0) s)) (z.4 (Rattle.cordz_core.specs.History.stamp_in (Rattle.record_rule.specs.Log.history z.0) s)) (z.3 (Rattle.cordz_core.specs.History.stamp_in (Rattle.record_rule.specs.Log.history z.0) s)) o.rep)
+        (z.5 (Rattle.cordz_core.specs.History.stamp_in (Rattle.record_rule.specs.Log.history z.0) s)) (z.4 (Rattle.cordz_core.specs.History.stamp_in (Rattle.record_rule.specs.Log.history z.0) s)) (z.3 (Rattle.cordz_core.specs.History.stamp_in (Rattle.record_rule.specs.Log.history z.0) s)) o.rep)
         (λ i. (sym a i, sym b i, sym c i, sym d i, sym e i, sym f i)) o.is;
   }
 
@@ -201,32 +204,34 @@ module _ {S : Type 0} (tree_of : S → Node) (fits : S → Type 0) where
         walk = λ n less off walking slots w. w;
         notes = λ t. inl refl;
         closed = λ t shut. (shut, refl);
-      } in
-      (seated g new, record {
-        first = world.first;
-        walkers = world.walkers;
-        replays = world.replays;
-        log = world.log;
-        room = omega arith;
-        slots = λ s small. same_slot g (seated g new) values s refl refl refl refl refl refl (world.slots s small);
-        notes = world.notes;
-        unborn = world.unborn;
-        few = (let n = few in omega arith);
-        ungiven = λ n over. world.ungiven n (omega arith);
-        each = split_views g (seated g new) views by (Some (Root (given + 1) back)) (Some (Token (new_token given))) grows
-            (k.0, ap (λ (n : ℕ). n + 1) k.1, tokens_seated g by new back k.2)
-            (record {
-              seat = changed_here g.seat g.given given new k.1;
-              given = omega arith;
-              own = u.0;
-              claims = λ s. inl refl;
-              walk = u.1;
-              reads = tt;
-              untracked = tt;
-              shown = tt;
-            })
-            world.each;
-      })
+      } in (
+        seated g new,
+        record {
+          first = world.first;
+          walkers = world.walkers;
+          replays = world.replays;
+          log = world.log;
+          room = omega arith;
+          slots = λ s small. same_slot g (seated g new) values s refl refl refl refl refl refl (world.slots s small);
+          notes = world.notes;
+          unborn = world.unborn;
+          few = (let n = few in omega arith);
+          ungiven = λ n over. world.ungiven n (omega arith);
+          each = split_views g (seated g new) views by (Some (Root (given + 1) back)) (Some (Token (new_token given))) grows
+              (k.0, ap (λ (n : ℕ). n + 1) k.1, tokens_seated g by new back k.2)
+              (record {
+                seat = changed_here g.seat g.given given new k.1;
+                given = omega arith;
+                own = u.0;
+                claims = λ s. inl refl;
+                walk = u.1;
+                reads = tt;
+                untracked = tt;
+                shown = tt;
+              })
+              world.each;
+        },
+      )
 
   pub issues : (g : Facts) (values : List (DeskValue S)) (views : List (Option DeskView)) (by s stamp : ℕ) (notes : List Noted) (bare : Bool) (p : TokenView) → IsWorld tree_of fits g values views → get_elem? views by ≡ some (Some (Token p)) → claim_at p.claims s ≡ Owned stamp notes bare
       → Split values views by (Token (claiming s Nothing p)) (Ticket s stamp notes bare)
@@ -247,35 +252,37 @@ module _ {S : Type 0} (tree_of : S → Node) (fits : S → Type 0) where
         walk = λ n less off walking slots w. w;
         notes = λ t. inl refl;
         closed = λ t shut. (shut, refl);
-      } in
-      (issued g s new, record {
-        first = world.first;
-        walkers = world.walkers;
-        replays = world.replays;
-        log = world.log;
-        room = omega arith;
-        slots = λ t small. same_slot g (issued g s new) values t refl refl refl refl refl refl (world.slots t small);
-        notes = world.notes;
-        unborn = world.unborn;
-        few = world.few;
-        ungiven = world.ungiven;
-        each = split_views g (issued g s new) views by (Some (Token (claiming s Nothing p))) (Some (Ticket s stamp notes bare)) grows
-            (record {
-              seat = k.seat;
-              given = k.given;
-              own = k.own;
-              claims = λ t. dite (ℕ_discrete t s)
-                  (λ is. inl (ap (λ b. cond b Nothing (claim_at p.claims t)) (eq-eqb t s is)))
-                  (λ not. subst (λ (z : Claim). (z ≡ Nothing) ⊎ Has (issued g s new) by t z) (sym (ap (λ b. cond b Nothing (claim_at p.claims t)) (ne_eqb t s not)))
-                      (⊎_elim (λ none. inl none) (λ z. inr (z.0, changed_else g.owner s t new not ∙ z.1, z.2)) (k.claims t)));
-              walk = k.walk;
-              reads = k.reads;
-              untracked = k.untracked;
-              shown = k.shown;
-            })
-            (h.0, changed_here g.owner s s new refl, h.2)
-            world.each;
-      })
+      } in (
+        issued g s new,
+        record {
+          first = world.first;
+          walkers = world.walkers;
+          replays = world.replays;
+          log = world.log;
+          room = omega arith;
+          slots = λ t small. same_slot g (issued g s new) values t refl refl refl refl refl refl (world.slots t small);
+          notes = world.notes;
+          unborn = world.unborn;
+          few = world.few;
+          ungiven = world.ungiven;
+          each = split_views g (issued g s new) views by (Some (Token (claiming s Nothing p))) (Some (Ticket s stamp notes bare)) grows
+              (record {
+                seat = k.seat;
+                given = k.given;
+                own = k.own;
+                claims = λ t. dite (ℕ_discrete t s)
+                    (λ is. inl (ap (λ b. cond b Nothing (claim_at p.claims t)) (eq-eqb t s is)))
+                    (λ not. subst (λ (z : Claim). (z ≡ Nothing) ⊎ Has (issued g s new) by t z) (sym (ap (λ b. cond b Nothing (claim_at p.claims t)) (ne_eqb t s not)))
+                    (⊎_elim (λ none. inl none) (λ z. inr (z.0, changed_else g.owner s t new not ∙ z.1, z.2)) (k.claims t)));
+                walk = k.walk;
+                reads = k.reads;
+                untracked = k.untracked;
+                shown = k.shown;
+              })
+              (h.0, changed_here g.owner s s new refl, h.2)
+              world.each;
+        },
+      )
 
   joins : (g : Facts) (values : List (DeskValue S)) (views : List (Option DeskView)) (by other : ℕ) (v w both : DeskView) → IsWorld tree_of fits g values views → get_elem? views by ≡ some (Some v) → other ≢ by → get_elem? views other ≡ some (Some w)
       → left_of (Some both) ≡ left_of (Some v) → Fits (joined g by other) by (Some both) → Merge values views by other both
@@ -283,20 +290,22 @@ module _ {S : Type 0} (tree_of : S → Node) (fits : S → Type 0) where
       let total = all_left_set views by (Some v) (Some both) seen in
       let total' = all_left_set (set views by (Some both)) other (Some w) None (set_else views by other (Some both) apart ∙ seen') in
       let had = world.room in
-      let is = left in
-      (joined g by other, record {
-        first = world.first;
-        walkers = world.walkers;
-        replays = world.replays;
-        log = world.log;
-        room = omega arith;
-        slots = λ t small. same_slot g (joined g by other) values t refl refl refl refl refl refl (world.slots t small);
-        notes = world.notes;
-        unborn = world.unborn;
-        few = world.few;
-        ungiven = world.ungiven;
-        each = merge_views g (joined g by other) views by other (Some both) (joined_grows g by other apart) fitting world.each;
-      })
+      let is = left in (
+        joined g by other,
+        record {
+          first = world.first;
+          walkers = world.walkers;
+          replays = world.replays;
+          log = world.log;
+          room = omega arith;
+          slots = λ t small. same_slot g (joined g by other) values t refl refl refl refl refl refl (world.slots t small);
+          notes = world.notes;
+          unborn = world.unborn;
+          few = world.few;
+          ungiven = world.ungiven;
+          each = merge_views g (joined g by other) views by other (Some both) (joined_grows g by other apart) fitting world.each;
+        },
+      )
 
   pub returns : (g : Facts) (values : List (DeskValue S)) (views : List (Option DeskView)) (by other given : ℕ) (back : List TokenView) (p : TokenView) → IsWorld tree_of fits g values views → get_elem? views by ≡ some (Some (Root given back)) → other ≢ by → get_elem? views other ≡ some (Some (Token p))
       → Merge values views by other (Root given (p ∷ back))
@@ -304,7 +313,7 @@ module _ {S : Type 0} (tree_of : S → Node) (fits : S → Type 0) where
       let k = world.each by (Some (Root given back)) seen in
       let t = world.each other (Some (Token p)) seen' in
       joins g values views by other (Root given back) (Token p) (Root given (p ∷ back)) world seen apart seen' refl
-        (k.0, k.1, (token_joined g by other other p (inr refl) t, tokens_joined g by other back k.2))
+      (k.0, k.1, (token_joined g by other other p (inr refl) t, tokens_joined g by other back k.2))
 
   pub redeems : (g : Facts) (values : List (DeskValue S)) (views : List (Option DeskView)) (by other s stamp : ℕ) (notes : List Noted) (bare : Bool) (p : TokenView) → IsWorld tree_of fits g values views → get_elem? views by ≡ some (Some (Token p)) → other ≢ by → get_elem? views other ≡ some (Some (Ticket s stamp notes bare))
       → Merge values views by other (Token (claiming s (Owned stamp notes bare) p))
@@ -312,4 +321,4 @@ module _ {S : Type 0} (tree_of : S → Node) (fits : S → Type 0) where
       let k = world.each by (Some (Token p)) seen in
       let t = world.each other (Some (Ticket s stamp notes bare)) seen' in
       joins g values views by other (Token p) (Ticket s stamp notes bare) (Token (claiming s (Owned stamp notes bare) p)) world seen apart seen' refl
-        (claim_more (joined g by other) by s p (Owned stamp notes bare) (token_joined g by other by p (inl refl) k) (has_joined g by other other s (Owned stamp notes bare) (inr refl) t))
+      (claim_more (joined g by other) by s p (Owned stamp notes bare) (token_joined g by other by p (inl refl) k) (has_joined g by other other s (Owned stamp notes bare) (inr refl) t))

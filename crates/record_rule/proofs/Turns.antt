@@ -61,20 +61,21 @@ module _ {S : Type 0} (tree_of : S → Node) (fits : S → Type 0) where
       let stamp : ℕ = stamp_in (history g.log) s in
       let f = follows_same g values views by t.world in
       let grows = grows_moved g by g.log g.registry s c stamp s lives list f (inr t.owner) t.grown t.shut in
-      let left = t.left in
-      (moved g by g.log g.registry s c stamp s lives list,
-      world_moved tree_of fits g values (set values (s + 1) (Record new)) views by v w g.log g.registry s c stamp s lives list t.world t.seen f
-        (set_else values (s + 1) 0 (Record new) (λ e. omega arith) ∙ t.world.first)
-        (omega arith)
-        (λ i not. (set_else values (s + 1) (i + 1) (Record new) (λ e. not (omega arith)), refl, refl))
-        (λ i not same here. not (sym here ∙ t.at))
-        (record {
-          rep = new;
-          at = set_there values (s + 1) (Record old) (Record new) t.there;
-          is = subst (λ (z : Claim × ℕ × Bool × List Noted). IsSlot tree_of fits z.0 (state_of g.registry s) s stamp z.1 z.2 z.3 new)
-              (λ i. (sym (changed_here g.claims s s c refl) i, sym (changed_here g.slot stamp stamp s refl) i, sym (changed_here g.live stamp stamp lives refl) i, sym (changed_here g.notes stamp stamp list refl) i)) t.is;
-        })
-        t.noted (stamp_given (history g.log) s) grows (fitting grows))
+      let left = t.left in (
+        moved g by g.log g.registry s c stamp s lives list,
+        world_moved tree_of fits g values (set values (s + 1) (Record new)) views by v w g.log g.registry s c stamp s lives list t.world t.seen f
+            (set_else values (s + 1) 0 (Record new) (λ e. omega arith) ∙ t.world.first)
+            (omega arith)
+            (λ i not. (set_else values (s + 1) (i + 1) (Record new) (λ e. not (omega arith)), refl, refl))
+            (λ i not same here. not (sym here ∙ t.at))
+            (record {
+              rep = new;
+              at = set_there values (s + 1) (Record old) (Record new) t.there;
+              is = subst (λ (z : Claim × ℕ × Bool × List Noted). IsSlot tree_of fits z.0 (state_of g.registry s) s stamp z.1 z.2 z.3 new)
+                  (λ i. (sym (changed_here g.claims s s c refl) i, sym (changed_here g.slot stamp stamp s refl) i, sym (changed_here g.live stamp stamp lives refl) i, sym (changed_here g.notes stamp stamp list refl) i)) t.is;
+            })
+            t.noted (stamp_given (history g.log) s) grows (fitting grows),
+      )
 
   record_is : (a b : Rep S) → Record a ≡ Record b → a ≡ b
   record_is a b e = cc
@@ -95,7 +96,7 @@ module _ {S : Type 0} (tree_of : S → Node) (fits : S → Type 0) where
       → IsToken (moved g by g.log g.registry s c (stamp_in (history g.log) s) s lives list) by (claiming s c p)
   claimed g by s p c lives list k small grows =
       token_moved g by g.log g.registry s c (stamp_in (history g.log) s) s lives list p p.own p.untracked k grows small k.own k.walk
-        (untracked_stay (λ j. j ≡ by) g (moved g by g.log g.registry s c (stamp_in (history g.log) s) s lives list) grows p.untracked k.untracked)
+      (untracked_stay (λ j. j ≡ by) g (moved g by g.log g.registry s c (stamp_in (history g.log) s) s lives list) grows p.untracked k.untracked)
 
   pub wrote : (g : Facts) (values : List (DeskValue S)) (views : List (Option DeskView)) (by : ℕ) (l : ℕ) (x y : DeskValue S) (v w : DeskView) → IsWorld tree_of fits g values views → (t : Wrote tree_of fits l x y v w)
       → get_elem? views by ≡ some (Some (Token t.token)) → get_elem? values (t.slot + 1) ≡ some (Record t.old) → Turned values views by t.slot t.new (Token (claiming t.slot (Written t.stamp (t.note ∷ [])) t.token))

@@ -18,6 +18,7 @@ pub struct Line {
 impl Line {
     ghost use Rattle.report_text.specs.Lines.{line_bytes, line_length};
 
+    /// An empty line.
     pub fn new() -> Line
         ensures { line_bytes result ≡ [] }
     {
@@ -26,18 +27,21 @@ impl Line {
         }
     }
 
+    /// Empties the line.
     pub fn clear(&mut self)
         ensures { line_bytes self.new ≡ [] }
     {
         self.bytes.clear();
     }
 
+    /// The line's bytes, borrowed.
     pub fn as_slice(&self) -> &[u8]
         ensures { result.now ≡ line_bytes self.now }
     {
         self.bytes.as_slice()
     }
 
+    /// Adds a byte behind the others, for which there is room.
     pub fn push(&mut self, byte: u8)
         requires { line_length self.old < LINE }
         ensures bytes { line_bytes self.new ≡ line_bytes self.old ++ byte ∷ [] }
@@ -46,6 +50,7 @@ impl Line {
         self.bytes.push(byte);
     }
 
+    /// Adds bytes behind the others, for which there is room.
     pub fn push_text(&mut self, text: &[u8])
         requires { line_length self.old + length text.now ≤ LINE }
         ensures bytes { line_bytes self.new ≡ line_bytes self.old ++ text.now }

@@ -16,7 +16,8 @@ use report_text::{different_histories_print_differently, plain_runs_are_printabl
 
 /// Every plain run of a script within the limits can be written.
 pub fn plain_runs_within_limits_are_printable()
-    ensures { (script : Script_value) (books : List Book_value) (history : List Entry_value) → IsWithinLimits script → IsPlainRun script.sessions books history → IsPrintable script.sessions books history }
+    ensures { (script : Script_value) (books : List Book_value) (history : List Entry_value) → IsWithinLimits script
+        → IsPlainRun script.sessions books history → IsPrintable script.sessions books history }
 {
     plain_runs_are_printable();
 }
@@ -29,8 +30,10 @@ pub fn spelled_texts_are_bytes()
 /// Every plain run of a script within the limits can be read back from its text, and its actions were on cells that
 /// there are.
 pub fn plain_runs_are_readable()
-    ensures readable { (script : Script_value) (books : List Book_value) (history : List Entry_value) → IsWithinLimits script → HaveByteTexts script.sessions → IsPlainRun script.sessions books history → IsReadable script.sessions books history }
-    ensures cells { (script : Script_value) (books : List Book_value) (history : List Entry_value) → IsWithinLimits script → IsPlainRun script.sessions books history → All (λ entry. entry.cell < 64) history }
+    ensures readable { (script : Script_value) (books : List Book_value) (history : List Entry_value) → IsWithinLimits script → HaveByteTexts script.sessions
+        → IsPlainRun script.sessions books history → IsReadable script.sessions books history }
+    ensures cells { (script : Script_value) (books : List Book_value) (history : List Entry_value) → IsWithinLimits script
+        → IsPlainRun script.sessions books history → All (λ entry. entry.cell < 64) history }
 {}
 
 /// The text of a run tells its history, whatever the bytes of the script's texts are.
@@ -46,7 +49,8 @@ pub fn histories_of_a_script_print_differently()
 pub fn different_runs_of_a_script_print_differently()
     ensures { (script : Script_value) (books : List Book_value) (others : List Book_value) (history : List Entry_value) (later : List Entry_value)
         → IsWithinLimits script → IsPlainRun script.sessions books history → IsPlainRun script.sessions others later
-        → output_text script.sessions books history 0 script.pool ≡ output_text script.sessions others later 0 script.pool → (books ≡ others) × (history ≡ later) }
+        → output_text script.sessions books history 0 script.pool ≡ output_text script.sessions others later 0 script.pool
+        → (books ≡ others) × (history ≡ later) }
 {
     histories_of_a_script_print_differently();
     books_are_determined();

@@ -25,7 +25,8 @@ module _ {X V : Type 0} where
       → (after.0.held ≡ Nothing) × (after.1 ≡ []) × leaves step.word taken given before.0.view after.0.view × Agreed agrees step.word (out taken) before.0.view
 
   -- the same, where the view is told after which function it has changed
-  abbrev pub left_to : (List (Spot X) → List (Option V) → Type 0) → (ℕ → X → X → V → V → Type 0) → (V → V) → Step (Option X) → Me (Option X) (Knowledge X V) → ℕ → Me (Option X) (Knowledge X V) → Type 0
+  abbrev pub left_to : (List (Spot X) → List (Option V) → Type 0) → (ℕ → X → X → V → V → Type 0) → (V → V) → Step (Option X) → Me (Option X) (Knowledge X V)
+      → ℕ → Me (Option X) (Knowledge X V) → Type 0
   left_to agrees leaves after = left agrees (λ l x y v w. leaves l x y v w × (w ≡ after v))
 
   -- a load, which tells what was so at the last split or merge

@@ -146,9 +146,7 @@ impl<T: DeskRule> Desk<T> {
         } = turn;
         let slot = self.table.shared.exchange(pass, place, Some(value));
         let None = slot else { unreachable!() };
-        self.table
-            .shared
-            .store::<LeavingTo<T, M>>(pass, place, 0);
+        self.table.shared.store::<LeavingTo<T, M>>(pass, place, 0);
         // Whoever counts itself later finds the word free, and doesn't sleep.
         if self.sleepers.load(Ordering::SeqCst) > 0 {
             self.table.shared.wake_one(place);

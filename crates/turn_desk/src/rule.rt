@@ -37,7 +37,8 @@ pub trait DeskRule {
         agrees spots views → get_elem? spots place ≡ some (home value) → agrees (slice_set spots place (out value)) views };
 
     // A value is given back.
-    ghost leaving_agrees: { (spots : List (Spot Self.Value)) (views : List (Option Self.View)) (place by : ℕ) (taken given : Self.Value) (before after : Self.View) →
+    ghost leaving_agrees: { (spots : List (Spot Self.Value)) (views : List (Option Self.View)) (place by : ℕ) (taken given : Self.Value)
+        (before after : Self.View) →
         agrees spots views → get_elem? spots place ≡ some (out taken) → get_elem? views by ≡ some (Some before) → leaves place taken given before after →
         agrees (slice_set spots place (home given)) (slice_set views by (Some after)) };
 

@@ -37,6 +37,7 @@ pub enum Use {
     Tracked,
 }
 
+/// A registry told by its actions: for each slot what it is, and the times of records and snapshots.
 #[derive(Drop)]
 pub struct Model {
     pub place: u64,
@@ -47,6 +48,7 @@ pub struct Model {
 }
 
 impl Model {
+    /// No record and no snapshot.
     pub fn new(alloc: Global) -> Model {
         Model {
             place: 0,
@@ -119,6 +121,7 @@ impl Model {
         settle <= place
     }
 
+    /// What the slot is now.
     pub fn state(&self, slot: u16) -> SlotState {
         let Some(holder) = self.uses.get(slot as usize) else {
             return SlotState::Free;
@@ -147,6 +150,7 @@ impl Model {
         }
     }
 
+    /// Whether the walker has a snapshot.
     pub fn is_walking(&self, walker: u8) -> bool {
         for snapshot in &self.snapshots {
             if snapshot.walker == walker && snapshot.end.is_none() {
@@ -167,10 +171,12 @@ impl Model {
         count
     }
 
+    /// An action: the clock goes on by one.
     pub fn tick(&mut self) {
         self.place = self.place.saturating_add(1);
     }
 
+    /// The slot is this from now on.
     pub fn give(&mut self, slot: u16, to: Use) {
         self.tick();
         if let Some(holder) = self.uses.get_mut(slot as usize) {
@@ -178,6 +184,7 @@ impl Model {
         }
     }
 
+    /// A record is linked in the slot.
     pub fn track(&mut self, slot: u16) -> Result<(), AllocError> {
         self.give(slot, Use::Tracked);
         self.records.push(RecordTimes {
@@ -189,6 +196,7 @@ impl Model {
         Ok(())
     }
 
+    /// The slot's record is unlinked.
     pub fn unlink(&mut self, slot: u16) {
         self.tick();
         let place = self.place;
@@ -199,6 +207,7 @@ impl Model {
         }
     }
 
+    /// The slot's record settles.
     pub fn settle(&mut self, slot: u16) {
         self.tick();
         let place = self.place;
@@ -209,6 +218,7 @@ impl Model {
         }
     }
 
+    /// The walker's snapshot begins.
     pub fn snap(&mut self, walker: u8) -> Result<(), AllocError> {
         self.tick();
         self.snapshots.push(SnapshotTimes {

@@ -44,7 +44,7 @@ leave-requires-clause-does g c =
     let d = c.perform-deed.result in
     let y = registry_of c.perform-deed.new.value in
     subst (λ (v : DeskView). Does d (token_in v) (registry_of c.enter-turn.result.taken.value) y) (sym c.enter-turn.ensures.pass.1)
-        (does_of c.args.ask d p _ y c.requires.may (subst (λ z. Performed c.args.ask d (registry_of z) y) is c.perform-deed.ensures.performed))
+    (does_of c.args.ask d p _ y c.requires.may (subst (λ z. Performed c.args.ask d (registry_of z) y) is c.perform-deed.ensures.performed))
 
 pub leave-requires-clause-few : goal.leave-requires-clause-few
 leave-requires-clause-few g c = subst (λ (v : DeskView). length (after_deed c.perform-deed.result []) + made_of (token_in v).own ≤ most_actions) (sym c.enter-turn.ensures.pass.1) (deed_few c.perform-deed.result _ c.requires.few)
