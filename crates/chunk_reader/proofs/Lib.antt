@@ -6,4 +6,3 @@ pub mod WayLaws
 pub mod DescentLaws
 pub mod GoLaws
 pub mod ReadLaws
-pub mod RootLaws

@@ -1,6 +1,5 @@
 -- The definitions of this crate.
 pub mod Places
-pub mod Roots
 pub mod Stops
 pub mod Readings
 pub mod Sources

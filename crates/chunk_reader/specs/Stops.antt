@@ -14,10 +14,12 @@ pub record Kept : Type 0 where
   pub stops : List Stop
 
 abbrev pub coded_stop : Coded Stop
-coded_stop = code_by (Node × (ℕ × ℕ)) (coded× coded_node (coded× coded_ℕ coded_ℕ)) (λ s. (s.branch, (s.start, s.edge))) (λ p. record { branch = p.0; start = p.1.0; edge = p.1.1 }) (λ _. refl)
+coded_stop = code_by (Node × (ℕ × ℕ)) (coded× coded_node (coded× coded_ℕ coded_ℕ)) (λ s. (s.branch, (s.start, s.edge)))
+    (λ p. record { branch = p.0; start = p.1.0; edge = p.1.1 }) (λ _. refl)
 
 abbrev pub coded_kept : Coded Kept
-coded_kept = code_by (Node × List Stop) (coded× coded_node (coded_list coded_stop)) (λ k. (k.root, k.stops)) (λ p. record { root = p.0; stops = p.1 }) (λ _. refl)
+coded_kept = code_by (Node × List Stop) (coded× coded_node (coded_list coded_stop)) (λ k. (k.root, k.stops)) (λ p. record { root = p.0; stops = p.1 })
+    (λ _. refl)
 
 -- a Branch and the place of its edge
 abbrev pub edge_in : Bor Node × ℕ → Node × ℕ

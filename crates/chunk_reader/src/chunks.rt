@@ -5,10 +5,10 @@ ghost use Rattle.node_edges.specs.Text.{text};
 ghost use Rattle.node_edges.specs.Trees.{shape_of, IsTreeAt, IsWellFormed};
 ghost use Rattle.chunk_reader.specs.Readings.{ReadsSome, path_of, chunk_of, passed};
 ghost use Rattle.chunk_reader.specs.Stops.{edge_in};
-ghost use Rattle.chunk_reader.specs.Roots.{below_sum};
+ghost use Rattle.node_edges.specs.Roots.{below_sum};
 
 use crate::way::Way;
-use node_edges::{Body, Edge, texts_are_as_long_as_edges_say};
+use node_edges::{Edge, skip_sum, texts_are_as_long_as_edges_say};
 use std::marker::Model;
 
 /// A reading of the text of a tree, or of bytes, from a place on (`cord.h`, `ChunkIterator`). It is an iterator of chunks, each a slice
@@ -47,12 +47,9 @@ impl<'a> Chunks<'a> {
         requires { IsWellFormed edge.now }
         ensures { result ≡ record { tree = below_sum edge.now; bytes = text edge.now; at = 0 } }
     {
-        match edge.body() {
-            Body::Sum { child, .. } => match child {
-                Some(child) => Chunks::of_tree(child),
-                None => Chunks::of_bytes(&[]),
-            },
-            _ => Chunks::of_tree(edge),
+        match skip_sum(edge) {
+            Some(tree) => Chunks::of_tree(tree),
+            None => Chunks::of_bytes(&[]),
         }
     }
 

@@ -14,5 +14,6 @@ pub fn offsets_fall_in_one_edge()
 /// What a data edge has from an offset on is what comes next in the text of the whole tree, and never nothing.
 pub fn chunks_are_what_comes_next()
     ensures some { (l : ℕ) (e : Node) (offset : ℕ) → IsTreeAt l e → offset < long e → 0 < length (rest_at l e offset) }
-    ensures next { (l : ℕ) (e : Node) (offset : ℕ) → IsTreeAt l e → offset < long e → rest_at l e offset ≡ take (length (rest_at l e offset)) (drop offset (text e)) }
+    ensures next { (l : ℕ) (e : Node) (offset : ℕ) → IsTreeAt l e → offset < long e
+        → rest_at l e offset ≡ take (length (rest_at l e offset)) (drop offset (text e)) }
 {}

@@ -8,3 +8,4 @@ pub mod EditLaws
 pub mod LevelLaws
 pub mod WayLaws
 pub mod ChangedLaws
+pub mod RootLaws

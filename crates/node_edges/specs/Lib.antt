@@ -7,3 +7,4 @@ pub mod Trees
 pub mod Changes
 pub mod Levels
 pub mod Ways
+pub mod Roots

@@ -13,6 +13,7 @@ mod exchange;
 mod filling;
 mod laws;
 mod memory;
+mod roots;
 #[cfg(test)]
 mod tests;
 mod ways;
@@ -25,4 +26,5 @@ pub use laws::{
 };
 pub use memory::Memory;
 pub use node_forest::Side;
+pub use roots::skip_sum;
 pub use ways::{few_edges_wait_on_a_way_down, ways_down_are_short};

@@ -43,10 +43,12 @@ abbrev pub name_words : Words NameVerb
 name_words = (codes "clear", name_verbs.Clear) ∷ (codes "sum", name_verbs.Sum) ∷ (codes "size", name_verbs.Size) ∷ (codes "print", name_verbs.Print) ∷ []
 
 abbrev pub name_text_words : Words NameTextVerb
-name_text_words = (codes "let", name_text_verbs.Let) ∷ (codes "append", name_text_verbs.Append) ∷ (codes "prepend", name_text_verbs.Prepend) ∷ (codes "find", name_text_verbs.Find) ∷ (codes "starts", name_text_verbs.Starts) ∷ (codes "ends", name_text_verbs.Ends) ∷ []
+name_text_words = (codes "let", name_text_verbs.Let) ∷ (codes "append", name_text_verbs.Append) ∷ (codes "prepend", name_text_verbs.Prepend) ∷
+    (codes "find", name_text_verbs.Find) ∷ (codes "starts", name_text_verbs.Starts) ∷ (codes "ends", name_text_verbs.Ends) ∷ []
 
 abbrev pub name_number_words : Words NameNumberVerb
-name_number_words = (codes "cutfront", name_number_verbs.CutFront) ∷ (codes "cutback", name_number_verbs.CutBack) ∷ (codes "at", name_number_verbs.At) ∷ (codes "setsum", name_number_verbs.SetSum) ∷ []
+name_number_words = (codes "cutfront", name_number_verbs.CutFront) ∷ (codes "cutback", name_number_verbs.CutBack) ∷ (codes "at", name_number_verbs.At) ∷
+    (codes "setsum", name_number_verbs.SetSum) ∷ []
 
 abbrev pub name_cell_words : Words NameCellVerb
 name_cell_words = (codes "put", name_cell_verbs.Put) ∷ (codes "swap", name_cell_verbs.Swap) ∷ []
@@ -55,7 +57,8 @@ abbrev pub cell_name_words : Words CellNameVerb
 cell_name_words = (codes "take", cell_name_verbs.Take) ∷ (codes "peek", cell_name_verbs.Peek) ∷ []
 
 abbrev pub two_names_words : Words TwoNamesVerb
-two_names_words = (codes "copy", two_names_verbs.Copy) ∷ (codes "join", two_names_verbs.Join) ∷ (codes "joinfront", two_names_verbs.JoinFront) ∷ (codes "compare", two_names_verbs.Compare) ∷ []
+two_names_words = (codes "copy", two_names_verbs.Copy) ∷ (codes "join", two_names_verbs.Join) ∷ (codes "joinfront", two_names_verbs.JoinFront) ∷
+    (codes "compare", two_names_verbs.Compare) ∷ []
 
 -- goes on where nothing was found
 abbrev pub or_else : {V : Type 0} → Option V → Option V → Option V

@@ -2,7 +2,9 @@
 ghost use Rattle.std.specs.Prelude.{◌≡◌, ◌<◌, ◌≤◌};
 ghost use Rattle.std.specs.List.{list_any};
 ghost use Rattle.std.specs.Str.{bytes_eq};
-ghost use Rattle.script_words.specs.Table.{found_in, name_words, name_text_words, name_number_words, name_cell_words, cell_name_words, two_names_words, unbuilt_words, command_word, word_of_table, least_of, most_of, least_setting, most_setting, name_command, name_text_command, name_number_command, name_cell_command, cell_name_command, two_names_command, setting_of};
+ghost use Rattle.script_words.specs.Table.{found_in, name_words, name_text_words, name_number_words, name_cell_words, cell_name_words, two_names_words};
+ghost use Rattle.script_words.specs.Table.{unbuilt_words, command_word, word_of_table, least_of, most_of, least_setting, most_setting, name_command};
+ghost use Rattle.script_words.specs.Table.{name_text_command, name_number_command, name_cell_command, cell_name_command, two_names_command, setting_of};
 
 use plain_cord::{Command, Items, Text};
 

@@ -5,13 +5,10 @@ use Rattle.tree_shapes.specs.Shape.{level, IsTree}
 use Rattle.node_edges.specs.declared.edge.Body.{Body}
 use Rattle.node_edges.specs.declared.edge.Body.TheVariants.{Flat, External, Part, Sum, Branch}
 use Rattle.node_edges.specs.Body.{node_with, HasBody}
+use Rattle.node_edges.specs.Text.{text}
 use Rattle.node_edges.specs.Trees.{shape_of, IsFilled, IsTreeAt, IsWellFormed}
-use Rattle.chunk_reader.specs.Roots.{below_sum}
-
--- a well formed tree, to be read
-pub record IsTop (e : Node) : Type 0 where
-  pub tree : IsTreeAt (level (shape_of e)) e
-  pub low : level (shape_of e) ≤ 12
+use Rattle.node_edges.specs.Roots.{below_sum, IsTop, text_of}
+use Rattle.node_edges.proofs.BodyLaws.{text-body}
 
 top-of : (e : Node) → IsTree (shape_of e) → IsFilled e → IsTop e
 top-of e is full = record { tree = record { at = refl; node = is.node; filled = full }; low = is.low }
@@ -47,3 +44,8 @@ below-in n l (Branch h es) no_sum = refl
 
 pub other-below : (e : Node) (b : Body) → HasBody e b → ((v : ℕ) (c : Option Node) → b ≡ Sum v c → ⊥) → below_sum e ≡ Some e
 other-below e b is no_sum = ap below_sum is ∙ below-in e.0.number e.0.length b no_sum ∙ ap (λ (t : Node). Some t) (sym is)
+
+-- the text is that of what stands below
+pub sum-text : (e : Node) (value : ℕ) (child : Option Node) → HasBody e (Sum value child) → text e ≡ text_of child
+sum-text e value None is = text-body e (Sum value None) is
+sum-text e value (Some child) is = text-body e (Sum value (Some child)) is
