@@ -1,5 +1,5 @@
 -- Each command of a script that was read can be run, and needs an entry at most.
-use Rattle.std.proofs.Common.{◌≡◌, ◌≤◌, List, [], ◌∷◌, true, arith}
+use Rattle.std.proofs.Common.{◌≤◌, List, [], ◌∷◌, arith}
 use Rattle.std.specs.List.{All}
 use Rattle.plain_cord.specs.declared.script.Session.{Session}
 use Rattle.script_reader.specs.Limits.{IsSoundSession}

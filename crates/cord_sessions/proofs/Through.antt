@@ -1,9 +1,9 @@
 -- What is said of a buffered sink is said of the sink below, once the buffer was emptied.
-use Rattle.std.proofs.Common.{◌≡◌, ◌≢◌, ◌≤◌, ◌+◌, ◌-◌, ◌^◌, ℕ, List, [], min, refl, sym, ◌∙◌, subst, arith, Option, inl, inr}
+use Rattle.std.proofs.Common.{◌≢◌, ℕ, List, [], refl, sym, ◌∙◌, subst, arith, Option, inl, inr}
 use Rattle.plain_cord.specs.declared.script.Script.{Script}
 use Rattle.plain_cord.specs.declared.reply.Book.{Book}
 use Rattle.plain_cord.specs.declared.history.Entry.{Entry}
-use Rattle.std.specs.Io.KnownBytes.{Appends, append_known}
+use Rattle.std.specs.Io.KnownBytes.{append_known}
 use Rattle.cord_port.specs.Causes.{Rose}
 use Rattle.cord_port.specs.Texts.{AppendsPart, Extends}
 use Rattle.cord_port.proofs.Appending.{no_part, whole_part}

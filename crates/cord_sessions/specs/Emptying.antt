@@ -1,5 +1,5 @@
 -- What becomes of an ending where the rest of its text is handed to the sink.
-use Rattle.std.specs.Prelude.{◌≡◌, ◌≤◌, ℕ, List, Option, ◌⊎◌}
+use Rattle.std.specs.Prelude.{◌≡◌, ℕ, List, Option, ◌⊎◌}
 use Rattle.std.specs.Io.KnownBytes.{Appends}
 use Rattle.cord_port.specs.Causes.{Rose}
 use Rattle.cord_port.specs.Texts.{AppendsPart}

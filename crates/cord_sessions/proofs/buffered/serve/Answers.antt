@@ -1,5 +1,5 @@
 -- What is said of the buffered sink is said of the sink.
-use Rattle.std.proofs.Common.{map, string_bytes, ap, ◌∙◌, subst, Option, List, ℕ, []}
+use Rattle.std.proofs.Common.{map, string_bytes, ap, ◌∙◌, subst, Option, List, ℕ}
 use Rattle.std.specs.Io.KnownBytes.{append_known}
 use Rattle.cord_port.specs.Texts.{Extends}
 use Rattle.cord_port.specs.Buffers.{sink_below, kept_bytes}

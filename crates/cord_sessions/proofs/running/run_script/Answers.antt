@@ -1,5 +1,5 @@
 -- The sessions of an accepted script can be run.
-use Rattle.std.proofs.Common.{◌≡◌, ◌≤◌, sym, subst, List, arith}
+use Rattle.std.proofs.Common.{◌≤◌, sym, subst, List, arith}
 use Rattle.std.specs.List.{All}
 use Rattle.plain_cord.specs.declared.script.Session.{Session}
 use Rattle.board_sessions.specs.Chairs.{entries_for_sessions}
