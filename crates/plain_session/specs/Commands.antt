@@ -5,6 +5,8 @@ use Rattle.plain_cord.specs.declared.script.Command.TheVariants as commands
 use Rattle.plain_cord.specs.declared.history.Act.{Act}
 use Rattle.plain_cord.specs.declared.history.Act.TheVariants.{Put, Take, Peek, Swap}
 use Rattle.plain_cord.specs.States.{Environment}
+use Rattle.plain_cord.specs.Outcomes.{Meaning, Clears, Cuts, Sums, Edits, Tells, meaning}
+use Rattle.plain_cord.specs.Outcomes.{OnCell as Acts}
 use Rattle.plain_cord.specs.Steps.{PlainStep}
 use Rattle.plain_session.specs.declared.session.Ran.{Ran}
 use Rattle.plain_session.specs.declared.session.Ran.TheVariants.{Answered, OnCell}
@@ -25,18 +27,18 @@ abbrev pub IsOnCell : Ran → Act → ℕ → List ℕ → Type 0
 IsOnCell (Answered reply) act cell a = ⊥
 IsOnCell (OnCell does on named) act cell a = (does ≡ act) × (on ≡ cell) × (named.now ≡ a)
 
--- a command that takes no memory: a change that adds no bytes, a question that copies none, of a name that was set; or one on a cell
+-- what takes no memory: a change that adds no bytes, and the sum of a name that was set; what is done on a cell
+abbrev pub IsFreeMeaning : Environment → Meaning → Type 0
+IsFreeMeaning names (Edits a Clears) = IsSome (names a)
+IsFreeMeaning names (Edits a (Cuts n make)) = IsSome (names a)
+IsFreeMeaning names (Edits a (Sums value)) = IsSome (names a)
+IsFreeMeaning names (Tells a) = IsSome (names a)
+IsFreeMeaning names (Acts act cell a) = Unit {0}
+IsFreeMeaning names _ = ⊥
+
+-- and the questions that copy no bytes
 abbrev pub IsFreeCommand : Environment → Command → Type 0
-IsFreeCommand names (commands.Clear a) = IsSome (names a)
-IsFreeCommand names (commands.CutFront a n) = IsSome (names a)
-IsFreeCommand names (commands.CutBack a n) = IsSome (names a)
-IsFreeCommand names (commands.SetSum a value) = IsSome (names a)
-IsFreeCommand names (commands.Sum a) = IsSome (names a)
 IsFreeCommand names (commands.Size a) = IsSome (names a)
 IsFreeCommand names (commands.At a i) = IsSome (names a)
 IsFreeCommand names (commands.Compare a b) = IsSome (names a) × IsSome (names b)
-IsFreeCommand names (commands.Put a cell) = Unit {0}
-IsFreeCommand names (commands.Take cell a) = Unit {0}
-IsFreeCommand names (commands.Peek cell a) = Unit {0}
-IsFreeCommand names (commands.Swap a cell) = Unit {0}
-IsFreeCommand names _ = ⊥
+IsFreeCommand names command = IsFreeMeaning names (meaning command)
