@@ -6,10 +6,10 @@ mod asking;
 mod desk;
 mod list;
 mod naming;
-mod notes;
 mod records;
 mod rule;
 mod share;
+mod start;
 mod tokens;
 mod walks;
 
@@ -17,4 +17,5 @@ pub use desk::CordzDesk;
 pub use naming::DeskNaming;
 pub use rule::RecordRule;
 pub use share::Share;
-pub use tokens::{CordzPass, Reserved, Ticket};
+pub use start::OpenedDesk;
+pub use tokens::{CordzPass, Reserved};
