@@ -3,3 +3,4 @@ mod Walks
 mod Totals
 mod Memory
 mod Opening
+mod Rows
