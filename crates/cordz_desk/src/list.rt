@@ -15,7 +15,8 @@ pub(crate) fn reserve<S>(value: &mut DeskValue<S>) -> Result<(u16, u64), Records
     requires list { IsList value.old }
     requires clock { (registry_of value.old).clock < 2 ^ 64 - 1 }
     ensures { MatchResult result
-        (λ r. Makes value.old value.new (Reserve r.0 r.1) × (r.0 < 256) × (state_of (registry_of value.old) r.0 ≡ IsFree) × Moves (registry_of value.old) (registry_of value.new) r.0 Reserved)
+        (λ r. Makes value.old value.new (Reserve r.0 r.1) × (r.0 < 256) × (state_of (registry_of value.old) r.0 ≡ IsFree)
+        × Moves (registry_of value.old) (registry_of value.new) r.0 Reserved)
         (λ e. Makes value.old value.new Full × (registry_of value.new ≡ registry_of value.old) × (e.in_use ≡ 256)) }
 {
     let DeskValue::List(registry) = value else {

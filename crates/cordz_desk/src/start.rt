@@ -19,6 +19,7 @@ use turn_desk::{Desk, DeskRefused, Split};
 
 // How many slots for records there are, and how many walkers may hold a snapshot.
 const SLOTS: usize = 256;
+
 const WALKERS: u8 = 16;
 
 /// A desk with one token, which has no name yet.

@@ -39,7 +39,8 @@ module _ (e : Node) (b : Body) (h : HasBody e b) where
     unfolding shape_of
     with-flat bytes room s = ap (λ (x : Node). with_node t (shape_of x)) (seen _ s)
 
-    pub with-external : (bytes : _) (slot : ℕ) → b ≡ External bytes slot → with_node t (shape_of e) ≡ record t { external = t.external + 1; memory = t.memory + (40 + e.0.length) }
+    pub with-external : (bytes : _) (slot : ℕ) → b ≡ External bytes slot
+        → with_node t (shape_of e) ≡ record t { external = t.external + 1; memory = t.memory + (40 + e.0.length) }
     unfolding shape_of
     with-external bytes slot s = ap (λ (x : Node). with_node t (shape_of x)) (seen _ s)
 

@@ -45,20 +45,24 @@ memory-most l e t long = node-most l (shape_of e) t.node (omega (arith, long, le
 pub budget-some : (l : ℕ) (e : Node) → IsTreeAt l e → 2147483783 ≤ budget e
 budget-some l e t =
     let some = tree-some l e t in
-    let all : 1 * 2147483783 ≤ budget e = mul-le-mul {n₁ = 1} {m₁ = 2147483783} {n₂ = e.0.length} {m₂ = 2147483783 + 64 * level (shape_of e)} (omega (arith, some)) (omega arith) in
+    let all : 1 * 2147483783 ≤ budget e = mul-le-mul {n₁ = 1} {m₁ = 2147483783} {n₂ = e.0.length} {m₂ = 2147483783 + 64 * level (shape_of e)}
+    (omega (arith, some)) (omega arith) in
     omega (arith, all)
 
 -- a cord that is not too long takes memory that a word can tell
 pub budget-most : (l : ℕ) (e : Node) → IsTreeAt l e → l ≤ 12 → e.0.length ≤ 2147483647 → budget e < 2 ^ 63
 budget-most l e t low long =
     let high = t.at in
-    let all : budget e ≤ 2147483647 * 2147484551 = mul-le-mul {n₁ = e.0.length} {m₁ = 2147483783 + 64 * level (shape_of e)} {n₂ = 2147483647} {m₂ = 2147484551} long (omega (arith, high, low)) in
+    let all : budget e ≤ 2147483647 * 2147484551 =
+    mul-le-mul {n₁ = e.0.length} {m₁ = 2147483783 + 64 * level (shape_of e)} {n₂ = 2147483647} {m₂ = 2147484551} long (omega (arith, high, low)) in
     omega (arith, all)
 
-external-at : (n l : ℕ) (bytes : _) (slot : ℕ) → IsSource (node_with n l (External bytes slot)).0.kind (shape_of (node_with n l (External bytes slot))).0 → l ≤ 2147483647
+external-at : (n l : ℕ) (bytes : _) (slot : ℕ) → IsSource (node_with n l (External bytes slot)).0.kind (shape_of (node_with n l (External bytes slot))).0
+    → l ≤ 2147483647
 unfolding shape_of
 external-at n l bytes slot is = is.small
 
-pub external-small : (e : Node) (b : Body) (bytes : _) (slot : ℕ) → HasBody e b → b ≡ External bytes slot → IsSource e.0.kind (shape_of e).0 → e.0.length ≤ 2147483647
+pub external-small : (e : Node) (b : Body) (bytes : _) (slot : ℕ) → HasBody e b → b ≡ External bytes slot → IsSource e.0.kind (shape_of e).0
+    → e.0.length ≤ 2147483647
 external-small e b bytes slot is same source =
     external-at e.0.number e.0.length bytes slot (subst (λ (t : Node). IsSource t.0.kind (shape_of t).0) (subst (HasBody e) same is) source)

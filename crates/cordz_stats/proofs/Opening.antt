@@ -29,7 +29,8 @@ part-level : (e : Node) (start n : ℕ) (child : Node) → HasBody e (Part start
 unfolding shape_of level
 part-level e start n child is = ap (λ (t : Node). level (shape_of t)) is
 
-pub part-source : (e : Node) (b : Body) (start n : ℕ) (child : Node) → IsNodeOf b e → b ≡ Part start n child → IsTreeAt (level (shape_of e)) e → IsSource child.0.kind (shape_of child).0
+pub part-source : (e : Node) (b : Body) (start n : ℕ) (child : Node) → IsNodeOf b e → b ≡ Part start n child → IsTreeAt (level (shape_of e)) e
+    → IsSource child.0.kind (shape_of child).0
 part-source e b start n child is same t =
     let here = subst (λ (z : Body). IsNodeOf z e) same is in
     (part-child e start n child here (at-level 0 e (part-level e start n child here.body) t)).source
@@ -68,7 +69,8 @@ sum-child n l value c w = record {
   };
 }
 
-pub below-sum : (e : Node) (b : Body) (value : ℕ) (child : _) (c : Node) → HasBody e b → b ≡ Sum value child → child ≡ Some c → IsWellFormed e → IsBelow e.0.length c
+pub below-sum : (e : Node) (b : Body) (value : ℕ) (child : _) (c : Node) → HasBody e b → b ≡ Sum value child → child ≡ Some c → IsWellFormed e
+    → IsBelow e.0.length c
 below-sum e b value child c is same some w =
     let here = subst (HasBody e) (same ∙ ap (Sum value) some) is in
     sum-child e.0.number e.0.length value c (subst IsWellFormed here w)
@@ -93,7 +95,8 @@ pub record IsOver (h : ℕ) (e : Node) (es : List Node) : Type 0 where
   pub long : e.0.length ≡ sum_by (λ (c : Node). c.0.length) es
   pub trees : All (IsTreeAt h) es
 
-pub opened : (e : Node) (b : Body) (h : ℕ) (edges : Vec Node) (es : List Node) → IsNodeOf b e → b ≡ Branch h edges → es ≡ edges.items → IsTreeAt (level (shape_of e)) e → IsOver h e es
+pub opened : (e : Node) (b : Body) (h : ℕ) (edges : Vec Node) (es : List Node) → IsNodeOf b e → b ≡ Branch h edges → es ≡ edges.items
+    → IsTreeAt (level (shape_of e)) e → IsOver h e es
 opened e b h edges es is same items t =
     let here = branch-body e h edges (subst (λ (z : Body). IsNodeOf z e) same is) in
     let below : children e ≡ es = children-branch e h edges.items here ∙ sym items in

@@ -12,7 +12,8 @@ use Rattle.cordz_stats.specs.declared.tally.Tally.{Tally}
 use Rattle.cordz_stats.proofs.Walks.{memory-node}
 
 -- what each node adds to one of the sums is added up
-summed : (g : Tally → ℕ) (w : Shape → ℕ) → ((t : Tally) (s : Shape) → g (with_node t s) ≡ g t + w s) → (t : Tally) (ss : List Shape) → g (with_nodes t ss) ≡ g t + sum_by w ss
+summed : (g : Tally → ℕ) (w : Shape → ℕ) → ((t : Tally) (s : Shape) → g (with_node t s) ≡ g t + w s) → (t : Tally) (ss : List Shape)
+    → g (with_nodes t ss) ≡ g t + sum_by w ss
 summed g w step t [] = omega arith
 summed g w step t (s ∷ ss) = omega (arith, summed g w step (with_node t s) ss, step t s, sum_by-cons w s ss)
 
@@ -51,35 +52,40 @@ branch-kind Part f t = omega arith
 branch-kind Sum f t = omega arith
 branch-kind Branch f t = refl
 
-up_to_64-kind : (k : Kind) (f : Form) (t : Tally) → (with_kind k f t).up_to_64 ≡ t.up_to_64 + one (is_kind Flat k && (nat_lt 0 (memory_by k f) && nat_le (memory_by k f) 64))
+up_to_64-kind : (k : Kind) (f : Form) (t : Tally) → (with_kind k f t).up_to_64 ≡
+    t.up_to_64 + one (is_kind Flat k && (nat_lt 0 (memory_by k f) && nat_le (memory_by k f) 64))
 up_to_64-kind Flat f t = refl
 up_to_64-kind External f t = omega arith
 up_to_64-kind Part f t = omega arith
 up_to_64-kind Sum f t = omega arith
 up_to_64-kind Branch f t = omega arith
 
-up_to_128-kind : (k : Kind) (f : Form) (t : Tally) → (with_kind k f t).up_to_128 ≡ t.up_to_128 + one (is_kind Flat k && (nat_lt 64 (memory_by k f) && nat_le (memory_by k f) 128))
+up_to_128-kind : (k : Kind) (f : Form) (t : Tally) → (with_kind k f t).up_to_128 ≡
+    t.up_to_128 + one (is_kind Flat k && (nat_lt 64 (memory_by k f) && nat_le (memory_by k f) 128))
 up_to_128-kind Flat f t = refl
 up_to_128-kind External f t = omega arith
 up_to_128-kind Part f t = omega arith
 up_to_128-kind Sum f t = omega arith
 up_to_128-kind Branch f t = omega arith
 
-up_to_256-kind : (k : Kind) (f : Form) (t : Tally) → (with_kind k f t).up_to_256 ≡ t.up_to_256 + one (is_kind Flat k && (nat_lt 128 (memory_by k f) && nat_le (memory_by k f) 256))
+up_to_256-kind : (k : Kind) (f : Form) (t : Tally) → (with_kind k f t).up_to_256 ≡
+    t.up_to_256 + one (is_kind Flat k && (nat_lt 128 (memory_by k f) && nat_le (memory_by k f) 256))
 up_to_256-kind Flat f t = refl
 up_to_256-kind External f t = omega arith
 up_to_256-kind Part f t = omega arith
 up_to_256-kind Sum f t = omega arith
 up_to_256-kind Branch f t = omega arith
 
-up_to_512-kind : (k : Kind) (f : Form) (t : Tally) → (with_kind k f t).up_to_512 ≡ t.up_to_512 + one (is_kind Flat k && (nat_lt 256 (memory_by k f) && nat_le (memory_by k f) 512))
+up_to_512-kind : (k : Kind) (f : Form) (t : Tally) → (with_kind k f t).up_to_512 ≡
+    t.up_to_512 + one (is_kind Flat k && (nat_lt 256 (memory_by k f) && nat_le (memory_by k f) 512))
 up_to_512-kind Flat f t = refl
 up_to_512-kind External f t = omega arith
 up_to_512-kind Part f t = omega arith
 up_to_512-kind Sum f t = omega arith
 up_to_512-kind Branch f t = omega arith
 
-up_to_1024-kind : (k : Kind) (f : Form) (t : Tally) → (with_kind k f t).up_to_1024 ≡ t.up_to_1024 + one (is_kind Flat k && (nat_lt 512 (memory_by k f) && nat_le (memory_by k f) 1024))
+up_to_1024-kind : (k : Kind) (f : Form) (t : Tally) → (with_kind k f t).up_to_1024 ≡
+    t.up_to_1024 + one (is_kind Flat k && (nat_lt 512 (memory_by k f) && nat_le (memory_by k f) 1024))
 up_to_1024-kind Flat f t = refl
 up_to_1024-kind External f t = omega arith
 up_to_1024-kind Part f t = omega arith
@@ -94,7 +100,8 @@ of_five Part = refl
 of_five Sum = refl
 of_five Branch = refl
 
-pub five_kinds : (ss : List Shape) → length ss ≡ count_by (is_a Flat) ss + count_by (is_a External) ss + count_by (is_a Part) ss + count_by (is_a Sum) ss + count_by (is_a Branch) ss
+pub five_kinds : (ss : List Shape) → length ss ≡ count_by (is_a Flat) ss + count_by (is_a External) ss + count_by (is_a Part) ss + count_by
+    (is_a Sum) ss + count_by (is_a Branch) ss
 five_kinds [] = refl
 five_kinds (s ∷ ss) = omega (
   arith,

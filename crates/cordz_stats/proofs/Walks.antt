@@ -1,5 +1,6 @@
 -- How a walk goes over the edges of a node, and what memory they may take.
-use Rattle.std.proofs.Common.{◌≡◌, ℕ, suc, ◌+◌, ◌*◌, ◌^◌, ◌<◌, ◌≤◌, List, [], ◌∷◌, ◌++◌, length, map, sum_by, take, get_or, refl, sym, ap, ◌∙◌, arith, append_assoc}
+use Rattle.std.proofs.Common.{◌≡◌, ℕ, suc, ◌+◌, ◌*◌, ◌^◌, ◌<◌, ◌≤◌, List, [], ◌∷◌, ◌++◌, length, map, sum_by, take, get_or, refl, sym, ap, ◌∙◌, arith}
+use Rattle.std.proofs.Common.{append_assoc}
 use Rattle.std.specs.List.{All}
 use Rattle.std.proofs.lemmas.List.{take_all, append-nil}
 use Rattle.std.proofs.lemmas.List.Sums.{sum_by-cons, sum_by_push, sum_by-take-le}
@@ -49,7 +50,8 @@ map-append [] ys = refl
 map-append (x ∷ xs) ys = ap (λ (ss : List Shape). shape_of x ∷ ss) (map-append xs ys)
 
 more : (es : List Node) (c : Node) → nodes_of (map shape_of (es ++ c ∷ [])) ≡ nodes_of (map shape_of es) ++ below (shape_of c)
-more es c = ap nodes_of (map-append es (c ∷ [])) ∙ (nodes_of-append (map shape_of es) (shape_of c ∷ []) ∙ ap (λ (ns : List Shape). nodes_of (map shape_of es) ++ ns) (append-nil (below (shape_of c))))
+more es c = ap nodes_of (map-append es (c ∷ []))
+    ∙ (nodes_of-append (map shape_of es) (shape_of c ∷ []) ∙ ap (λ (ns : List Shape). nodes_of (map shape_of es) ++ ns) (append-nil (below (shape_of c))))
 
 -- ---- the edges one by one
 -- the node itself was counted, and so many of its edges with all below them
@@ -85,7 +87,8 @@ module _ (e : Node) (es : List Node) (i : ℕ) (c : Node) (t u : Tally) (lt : i 
   pub fits_next : t.memory + budget e < 2 ^ 64 → 64 + sum_by budget es ≤ budget e → u.memory + budget c < 2 ^ 64
   fits_next fits all = omega (arith, fits, all, p.spent, budget-next, sum_by-take-le budget es (i + 1))
 
-pub counted_last : (e : Node) (es : List Node) (i : ℕ) (t u : Tally) → children e ≡ es → length es ≤ i → IsPartway e es i t u → u ≡ with_nodes t (below (shape_of e))
+pub counted_last : (e : Node) (es : List Node) (i : ℕ) (t u : Tally) → children e ≡ es → length es ≤ i → IsPartway e es i t u
+    → u ≡ with_nodes t (below (shape_of e))
 counted_last e es i t u same all p =
     p.counted ∙ ap (with_nodes t) (ap (λ (xs : List Node). shape_of e ∷ nodes_of (map shape_of xs)) (take_all i es all) ∙ sym (below-edges e es same))
 
@@ -103,14 +106,18 @@ same-level l (c ∷ cs) all =
     let rest = same-level l cs (λ k d lt. all (suc k) d (omega (arith, lt))) in
     let one : budget c ≡ c.0.length * (2147483783 + 64 * l) = ap (λ n. c.0.length * (2147483783 + 64 * n)) here in
     let long = sum_by-cons (λ (x : Node). x.0.length) c cs in
-    sum_by-cons budget c cs ∙ ((λ q. one q + rest q) ∙ (sym (add-mul c.0.length (sum_by (λ (x : Node). x.0.length) cs) (2147483783 + 64 * l)) ∙ ap (λ n. n * (2147483783 + 64 * l)) (sym long)))
+    sum_by-cons budget c cs
+    ∙ ((λ q. one q + rest q)
+    ∙ (sym (add-mul c.0.length (sum_by (λ (x : Node). x.0.length) cs) (2147483783 + 64 * l)) ∙ ap (λ n. n * (2147483783 + 64 * l)) (sym long)))
 
-pub budget-edges : (l : ℕ) (e : Node) (es : List Node) → IsTreeAt (suc l) e → e.0.length ≡ sum_by (λ (c : Node). c.0.length) es → All (λ c. level (shape_of c) ≡ l) es → 64 + sum_by budget es ≤ budget e
+pub budget-edges : (l : ℕ) (e : Node) (es : List Node) → IsTreeAt (suc l) e → e.0.length ≡ sum_by (λ (c : Node). c.0.length) es
+    → All (λ c. level (shape_of c) ≡ l) es → 64 + sum_by budget es ≤ budget e
 budget-edges l e es t long all =
     let some = tree-some (suc l) e t in
     let same = same-level l es all in
     let high : budget e ≡ e.0.length * (2147483783 + 64 * suc l) = ap (λ n. e.0.length * (2147483783 + 64 * n)) t.at in
-    let parts : e.0.length * (2147483783 + 64 * suc l) ≡ e.0.length * (2147483783 + 64 * l) + e.0.length * 64 = ap (λ n. e.0.length * n) (omega arith) ∙ mul-add e.0.length (2147483783 + 64 * l) 64 in
+    let parts : e.0.length * (2147483783 + 64 * suc l) ≡ e.0.length * (2147483783 + 64 * l) + e.0.length * 64 = ap (λ n. e.0.length * n) (omega arith)
+    ∙ mul-add e.0.length (2147483783 + 64 * l) 64 in
     let whole : e.0.length * (2147483783 + 64 * l) ≡ sum_by (λ (c : Node). c.0.length) es * (2147483783 + 64 * l) = ap (λ n. n * (2147483783 + 64 * l)) long in
     omega (arith, some, same, high, parts, whole)
 

@@ -112,10 +112,14 @@ module _ {S : Type 0} where
     abbrev pub IsSlot : Claim → SlotState → ℕ → ℕ → ℕ → Bool → List Noted → Rep S → Type 0
     IsSlot Nothing state s stamp at live notes r = ((state ≡ Free) × (r.hold ≡ None)) ⊎ ((state ≡ Queued) × (live ≡ false) × IsRecordAt s stamp at notes r)
     IsSlot (Promised own) state s stamp at live notes r = (state ≡ Reserved) × (live ≡ true) × (own ≡ stamp) × (at ≡ s) × (notes ≡ []) × (r.hold ≡ None)
-    IsSlot (Written own ns) state s stamp at live notes r = (state ≡ Reserved) × (live ≡ true) × (own ≡ stamp) × (ns ≡ notes) × (is_bare r ≡ false) × IsRecordAt s stamp at notes r
-    IsSlot (Owned own ns bare) state s stamp at live notes r = (state ≡ Linked) × (live ≡ true) × (own ≡ stamp) × (ns ≡ notes) × (bare ≡ is_bare r) × IsRecordAt s stamp at notes r
-    IsSlot (Unlinked own bare) state s stamp at live notes r = (state ≡ Leaving) × (live ≡ false) × (own ≡ stamp) × (bare ≡ is_bare r) × IsRecordAt s stamp at notes r
-    IsSlot (Cleared bare) state s stamp at live notes r = (state ≡ Clearing) × (live ≡ false) × MatchOption bare ⊤ (λ b. b ≡ is_bare r) × IsRecordAt s stamp at notes r
+    IsSlot (Written own ns) state s stamp at live notes r = (state ≡ Reserved) × (live ≡ true) × (own ≡ stamp) × (ns ≡ notes) × (is_bare r ≡ false)
+        × IsRecordAt s stamp at notes r
+    IsSlot (Owned own ns bare) state s stamp at live notes r = (state ≡ Linked) × (live ≡ true) × (own ≡ stamp) × (ns ≡ notes) × (bare ≡ is_bare r)
+        × IsRecordAt s stamp at notes r
+    IsSlot (Unlinked own bare) state s stamp at live notes r = (state ≡ Leaving) × (live ≡ false) × (own ≡ stamp) × (bare ≡ is_bare r)
+        × IsRecordAt s stamp at notes r
+    IsSlot (Cleared bare) state s stamp at live notes r = (state ≡ Clearing) × (live ≡ false) × MatchOption bare ⊤ (λ b. b ≡ is_bare r)
+        × IsRecordAt s stamp at notes r
     IsSlot Emptied state s stamp at live notes r = (state ≡ Clearing) × (at ≡ s) × (r.hold ≡ None)
 
     -- the slot with its stamp

@@ -25,7 +25,15 @@ pub add_source-requires-clause-fits : goal.add_source-requires-clause-fits
 add_source-requires-clause-fits t c =
     let e = c.args.edge.now in
     let own = ap (λ (u : Tally). u.memory) c.count.ensures.counted in
-    omega (arith, own, memory-node c.args.self.now (shape_of e), memory-part e _ c.body.ensures.body _ _ _ c.in-Part.is, budget-some _ e c.requires.tree, c.requires.fits)
+    omega (
+      arith,
+      own,
+      memory-node c.args.self.now
+          (shape_of e),
+      memory-part e _ c.body.ensures.body _ _ _ c.in-Part.is,
+      budget-some _ e c.requires.tree,
+      c.requires.fits,
+    )
 
 pub returns-in-Part-clause-counted : goal.returns-in-Part-clause-counted
 returns-in-Part-clause-counted t c =
@@ -38,7 +46,15 @@ pub returns-in-Part-clause-spent : goal.returns-in-Part-clause-spent
 returns-in-Part-clause-spent t c =
     let e = c.args.edge.now in
     let own = ap (λ (u : Tally). u.memory) c.count.ensures.counted in
-    omega (arith, own, memory-node c.args.self.now (shape_of e), memory-part e _ c.body.ensures.body _ _ _ c.in-Part.is, budget-some _ e c.requires.tree, c.add_source.ensures.spent)
+    omega (
+      arith,
+      own,
+      memory-node c.args.self.now
+          (shape_of e),
+      memory-part e _ c.body.ensures.body _ _ _ c.in-Part.is,
+      budget-some _ e c.requires.tree,
+      c.add_source.ensures.spent,
+    )
 
 -- ---- flats and externals
 pub returns-in-Flat-clause-counted : goal.returns-in-Flat-clause-counted

@@ -47,12 +47,15 @@ pub returns-in-Some-clause-counted : goal.returns-in-Some-clause-counted
 returns-in-Some-clause-counted c =
     let e = c.args.edge.now in
     c.add.ensures.counted
-    ∙ (ap (λ (u : Tally). with_nodes u (below (shape_of c.in-Some.child))) (c.count.ensures.counted ∙ ap (λ (u : Tally). with_node u (shape_of e)) c.requires.first)
-    ∙ ap (with_nodes nothing) (sym (one-edge e c.in-Some.child (children-body e _ c.body.ensures.body ∙ ap edges_in_body (c.in-Sum.is ∙ ap (Sum c.in-Sum.value) c.in-Some.is)))))
+    ∙ (ap (λ (u : Tally). with_nodes u (below (shape_of c.in-Some.child)))
+    (c.count.ensures.counted ∙ ap (λ (u : Tally). with_node u (shape_of e)) c.requires.first)
+    ∙ ap (with_nodes nothing)
+    (sym (one-edge e c.in-Some.child (children-body e _ c.body.ensures.body ∙ ap edges_in_body (c.in-Sum.is ∙ ap (Sum c.in-Sum.value) c.in-Some.is)))))
 
 pub returns-in-None-clause-counted : goal.returns-in-None-clause-counted
 returns-in-None-clause-counted c =
     let e = c.args.edge.now in
     c.count.ensures.counted
     ∙ (ap (λ (u : Tally). with_node u (shape_of e)) c.requires.first
-    ∙ ap (with_nodes nothing) (sym (no-edges e (children-body e _ c.body.ensures.body ∙ ap edges_in_body (c.in-Sum.is ∙ ap (Sum c.in-Sum.value) c.in-None.is)))))
+    ∙ ap (with_nodes nothing)
+    (sym (no-edges e (children-body e _ c.body.ensures.body ∙ ap edges_in_body (c.in-Sum.is ∙ ap (Sum c.in-Sum.value) c.in-None.is)))))

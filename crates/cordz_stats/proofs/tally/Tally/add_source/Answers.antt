@@ -24,7 +24,8 @@ returns-in-Flat-clause-counted c =
 pub returns-in-External-clause-counted : goal.returns-in-External-clause-counted
 returns-in-External-clause-counted c =
     let e = c.args.edge.now in
-    c.count-in-External.ensures.counted ∙ ap (with_nodes c.args.self.now) (sym (no-edges e (children-body e _ c.body.ensures.body ∙ ap edges_in_body c.in-External.is)))
+    c.count-in-External.ensures.counted ∙ ap (with_nodes c.args.self.now)
+    (sym (no-edges e (children-body e _ c.body.ensures.body ∙ ap edges_in_body c.in-External.is)))
 
 pub returns-in-External-clause-spent : goal.returns-in-External-clause-spent
 returns-in-External-clause-spent c =

@@ -1,14 +1,16 @@
 -- The facts of `count` that the check leaves to be shown.
 use Rattle.std.proofs.Common.{◌+◌, ap, sym, ◌∙◌, arith}
 use Rattle.cordz_stats.specs.Tallies.{with_flat}
-use Rattle.cordz_stats.proofs.Forms.{memory-flat, memory-external, memory-part, memory-sum, memory-branch, with-flat, with-external, with-part, with-sum, with-branch}
+use Rattle.cordz_stats.proofs.Forms.{memory-flat, memory-external, memory-part, memory-sum, memory-branch, with-flat, with-external, with-part, with-sum}
+use Rattle.cordz_stats.proofs.Forms.{with-branch}
 use Rattle.cordz_stats.proofs.tally.Tally.count.Goals as goal
 
 pub count_flat-requires-clause-fits : goal.count_flat-requires-clause-fits
 count_flat-requires-clause-fits c = omega (arith, memory-flat c.args.edge.now _ c.body.ensures.body _ _ c.in-Flat.is, c.requires.fits, c.length.ensures.is)
 
 pub overflow_add-self-in-External-2 : goal.overflow_add-self-in-External-2
-overflow_add-self-in-External-2 c = omega (arith, memory-external c.args.edge.now _ c.body.ensures.body _ _ c.in-External.is, c.requires.fits, c.length-in-External.ensures.is)
+overflow_add-self-in-External-2 c =
+    omega (arith, memory-external c.args.edge.now _ c.body.ensures.body _ _ c.in-External.is, c.requires.fits, c.length-in-External.ensures.is)
 
 pub overflow_add-self-in-Part-2 : goal.overflow_add-self-in-Part-2
 overflow_add-self-in-Part-2 c = omega (arith, memory-part c.args.edge.now _ c.body.ensures.body _ _ _ c.in-Part.is, c.requires.fits)
