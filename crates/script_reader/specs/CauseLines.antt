@@ -31,22 +31,28 @@ BytesAreTold = (p : Progress) (line : List ℕ) → is_ignored line ≡ false �
 
 -- a first word that is none, or isn't built, whatever stands behind it and wherever the line stands
 abbrev pub CommandsAreTold : Type 0
-CommandsAreTold = (p : Progress) (line word : List ℕ) (rest : Option (List ℕ)) → Begins line word rest → word_of_table word ≡ firsts.Unknown → step p line ≡ Err causes.Command
+CommandsAreTold = (p : Progress) (line word : List ℕ) (rest : Option (List ℕ)) → Begins line word rest → word_of_table word ≡ firsts.Unknown
+    → step p line ≡ Err causes.Command
 
 abbrev pub UnbuiltAreTold : Type 0
-UnbuiltAreTold = (p : Progress) (line word : List ℕ) (rest : Option (List ℕ)) → Begins line word rest → word_of_table word ≡ firsts.Unbuilt → step p line ≡ Err causes.Unbuilt
+UnbuiltAreTold = (p : Progress) (line word : List ℕ) (rest : Option (List ℕ)) → Begins line word rest → word_of_table word ≡ firsts.Unbuilt
+    → step p line ≡ Err causes.Unbuilt
 
 -- a line that may not stand there, whatever stands behind its first word
 abbrev pub MisplacedAreTold : Type 0
-MisplacedAreTold = (p : Progress) (line word : List ℕ) (rest : Option (List ℕ)) (verb : Verb) → Begins line word rest → word_of_table word ≡ firsts.Built verb → is_placed p verb ≡ false → step p line ≡ Err causes.Misplaced
+MisplacedAreTold = (p : Progress) (line word : List ℕ) (rest : Option (List ℕ)) (verb : Verb) → Begins line word rest
+    → word_of_table word ≡ firsts.Built verb → is_placed p verb ≡ false → step p line ≡ Err causes.Misplaced
 
 -- a session that is spelled soundly and stands outside the others, with the name of one of them
 abbrev pub DuplicatesAreTold : Type 0
-DuplicatesAreTold = (p : Progress) (line name : List ℕ) → SpellsItem line (items.Begin name) → is_none p.current ≡ true → list_any (is_called name) p.done ≡ true → step p line ≡ Err causes.Duplicate
+DuplicatesAreTold = (p : Progress) (line name : List ℕ) → SpellsItem line (items.Begin name) → is_none p.current ≡ true
+    → list_any (is_called name) p.done ≡ true → step p line ≡ Err causes.Duplicate
 
 -- a 17th session with a new name, and a command behind 16,384 others
 abbrev pub SessionsAreCounted : Type 0
-SessionsAreCounted = (p : Progress) (line name : List ℕ) → SpellsItem line (items.Begin name) → is_none p.current ≡ true → list_any (is_called name) p.done ≡ false → 16 ≤ length p.done → step p line ≡ Err causes.Many
+SessionsAreCounted = (p : Progress) (line name : List ℕ) → SpellsItem line (items.Begin name) → is_none p.current ≡ true
+    → list_any (is_called name) p.done ≡ false → 16 ≤ length p.done → step p line ≡ Err causes.Many
 
 abbrev pub CommandsAreCounted : Type 0
-CommandsAreCounted = (p : Progress) (line : List ℕ) (command : Command) (session : Session) → SpellsItem line (items.Do command) → p.current ≡ Some session → 16384 ≤ p.commands → step p line ≡ Err causes.Many
+CommandsAreCounted = (p : Progress) (line : List ℕ) (command : Command) (session : Session) → SpellsItem line (items.Do command) → p.current ≡ Some session
+    → 16384 ≤ p.commands → step p line ≡ Err causes.Many

@@ -18,7 +18,8 @@ use Rattle.script_reader.specs.declared.progress.Item.TheVariants as items
 use Rattle.script_words.specs.Words.{cut, word_at, last_word_at, part_at, name_at, is_shown}
 use Rattle.script_words.specs.Numbers.{number_at}
 use Rattle.script_words.specs.Texts.{text_at}
-use Rattle.script_words.specs.Table.{word_of_table, least_of, most_of, least_setting, most_setting, name_command, name_text_command, name_number_command, name_cell_command, cell_name_command, two_names_command, setting_of}
+use Rattle.script_words.specs.Table.{word_of_table, least_of, most_of, least_setting, most_setting, name_command, name_text_command, name_number_command}
+use Rattle.script_words.specs.Table.{name_cell_command, cell_name_command, two_names_command, setting_of}
 
 -- a word that is no first word has its own cause, and one that isn't built yet
 abbrev pub known : FirstWord → Option (List ℕ) → Result (Verb × Option (List ℕ)) Cause

@@ -1,5 +1,6 @@
 -- A script, line by line, and its first fault.
-use Rattle.std.specs.Prelude.{ℕ, ◌+◌, ◌&&◌, Bool, true, List, [], ◌∷◌, ◌++◌, length, Option, Some, None, Result, Ok, Err, ◌==◌, nat_lt, if◌then◌else◌, is_none, is_some, codes, unwrap_or}
+use Rattle.std.specs.Prelude.{ℕ, ◌+◌, ◌&&◌, Bool, true, List, [], ◌∷◌, ◌++◌, length, Option, Some, None, Result, Ok, Err, ◌==◌, nat_lt, if◌then◌else◌, is_none}
+use Rattle.std.specs.Prelude.{is_some, codes, unwrap_or}
 use Rattle.std.specs.List.{list_any}
 use Rattle.std.specs.Str.{bytes_eq}
 use Rattle.script_words.specs.declared.fault.Cause.{Cause}
@@ -61,7 +62,8 @@ chosen s (settings.Stride n) = once s.stride (record s { stride = Some n })
 abbrev pub with_command : Progress → Command → Option Session → Result Progress Cause
 with_command p command None = Err causes.Misplaced
 with_command p command (Some session) =
-    if nat_lt p.commands 16384 then Ok (record p { current = Some (record session { commands = session.commands ++ command ∷ [] }); commands = p.commands + 1 }) else Err causes.Many
+    if nat_lt p.commands 16384 then Ok
+    (record p { current = Some (record session { commands = session.commands ++ command ∷ [] }); commands = p.commands + 1 }) else Err causes.Many
 
 abbrev pub with_end : Progress → Option Session → Result Progress Cause
 with_end p None = Err causes.Misplaced
@@ -96,7 +98,13 @@ located n (Err cause) more = Err (record { line = n; cause = cause })
 
 -- what was read, where no session is open
 abbrev pub script_from : Progress → Script
-script_from p = record { pool = unwrap_or p.settings.pool 65536; passes = unwrap_or p.settings.passes 16384; stride = unwrap_or p.settings.stride 0; sessions = p.done }
+script_from p = record {
+  pool = unwrap_or p.settings.pool 65536;
+  passes = unwrap_or p.settings.passes 16384;
+  stride = unwrap_or p.settings.stride 0;
+  sessions =
+      p.done;
+}
 
 abbrev pub script_of : ℕ → Progress → Option Session → Result Script ScriptError
 script_of n p None = Ok (script_from p)

@@ -12,7 +12,8 @@ use Rattle.script_words.specs.declared.verbs.FirstWord.TheVariants as firsts
 use Rattle.script_reader.specs.declared.progress.Item.{Item}
 use Rattle.script_reader.specs.declared.progress.Item.TheVariants as items
 use Rattle.script_words.specs.Spelling.{IsName, SpellsNumber, SpellsText, joined}
-use Rattle.script_words.specs.Table.{word_of_table, least_of, most_of, least_setting, most_setting, Form, OfName, OfNameText, OfNameNumber, OfNameCell, OfCellName, OfTwoNames, OfSub, form_of, verb_in}
+use Rattle.script_words.specs.Table.{word_of_table, least_of, most_of, least_setting, most_setting, Form, OfName, OfNameText, OfNameNumber, OfNameCell}
+use Rattle.script_words.specs.Table.{OfCellName, OfTwoNames, OfSub, form_of, verb_in}
 
 abbrev pub setting_verb : Setting → SettingVerb
 setting_verb (settings.Pool n) = setting_verbs.Pool
@@ -53,7 +54,8 @@ abbrev pub SaysNumberName : ℕ → ℕ → Option (List ℕ) → ℕ → List �
 SaysNumberName least most rest n a = (word : List ℕ) × (rest ≡ Some (word ++ 32 ∷ a)) × IsName a × SpellsNumber word n × (least ≤ n) × (n ≤ most)
 
 abbrev pub SaysSub : Option (List ℕ) → List ℕ → ℕ → ℕ → List ℕ → Type 0
-SaysSub rest a pos n b = (first : List ℕ) × (second : List ℕ) × (rest ≡ Some (a ++ 32 ∷ (first ++ 32 ∷ (second ++ 32 ∷ b)))) × IsName a × IsName b × SpellsNumber first pos × SpellsNumber second n
+SaysSub rest a pos n b = (first : List ℕ) × (second : List ℕ) × (rest ≡ Some (a ++ 32 ∷ (first ++ 32 ∷ (second ++ 32 ∷ b)))) × IsName a × IsName b
+    × SpellsNumber first pos × SpellsNumber second n
 
 -- what stands behind the first word of a command
 abbrev pub SaysForm : Option (List ℕ) → Form → Type 0

@@ -140,7 +140,8 @@ impl ScriptFeed {
     pub fn fault(&self) -> Option<ScriptError>
         requires { ¬ (IsWanting self.now) }
         ensures some { (bytes more : List ℕ) (e : ScriptError_value) → HasGot self.now bytes → result ≡ Some e → IsFirstFault (bytes ++ more) e }
-        ensures none { (bytes more : List ℕ) (e : ScriptError_value) → HasGot self.now bytes → result ≡ None → IsFirstFault (bytes ++ more) e → newlines bytes < e.line }
+        ensures none { (bytes more : List ℕ) (e : ScriptError_value) → HasGot self.now bytes → result ≡ None → IsFirstFault (bytes ++ more) e
+            → newlines bytes < e.line }
     {
         match &self.known {
             Known::Faulty(error) => Some(*error),

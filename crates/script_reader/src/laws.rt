@@ -6,7 +6,8 @@ ghost use Rattle.script_reader.specs.Scripts.{read_of};
 ghost use Rattle.script_reader.specs.ScriptSpelling.{Spells};
 ghost use Rattle.script_reader.specs.Faults.{IsFirstFault};
 ghost use Rattle.script_reader.specs.Limits.{IsWithinLimits};
-ghost use Rattle.script_reader.specs.CauseLines.{BytesAreTold, CommandsAreTold, UnbuiltAreTold, MisplacedAreTold, DuplicatesAreTold, SessionsAreCounted, CommandsAreCounted};
+ghost use Rattle.script_reader.specs.CauseLines.{BytesAreTold, CommandsAreTold, UnbuiltAreTold, MisplacedAreTold, DuplicatesAreTold, SessionsAreCounted};
+ghost use Rattle.script_reader.specs.CauseLines.{CommandsAreCounted};
 
 /// A script is read back from each of its spellings.
 pub fn spelled_script_is_read()
