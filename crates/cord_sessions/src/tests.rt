@@ -586,7 +586,8 @@ sum y => sum 7"#,
     dialogue.hold(
         &rt,
         rt.alloc(),
-        "history 9\na 1 put 3 ok 1\na 2 peek 3 ok 1\na 3 swap 3 ok 2 1\na 4 swap 4 empty\na 5 take 4 empty\na 6 peek 63 empty\na 7 take 3 ok 2\na 8 put 63 ok 1\na 9 take 63 ok 1\n",
+        "history 9\na 1 put 3 ok 1\na 2 peek 3 ok 1\na 3 swap 3 ok 2 1\na 4 swap 4 empty\na 5 take 4 empty\n\
+        a 6 peek 63 empty\na 7 take 3 ok 2\na 8 put 63 ok 1\na 9 take 63 ok 1\n",
     )
 }
 

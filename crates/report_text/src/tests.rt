@@ -166,7 +166,9 @@ fn answers_have_their_texts(rt: HostRuntime) -> Result<(), Fail> {
     let (sink, written) = sink_after(rt.alloc(), first, second, &[], 4096, Vec::new(rt.alloc()))?;
     assert!(rt; written);
     let wanted =
-        b"session a\nok\nok ~2.0 20\nok ~2.0 20 ~1 gone\nok ~full\nok ~full ~18446744073709551615 gone\nok ~1 gone\n0\n18446744073709551615\nsum 4294967295\nnone\nsession b1\nless\nequal\ngreater\nyes\nno\n! unset x\n! no bytes\n! position 21 20\n! length 2147483648\n! empty 63\nhistory 0\npool 0 of 1\n";
+        b"session a\nok\nok ~2.0 20\nok ~2.0 20 ~1 gone\nok ~full\nok ~full ~18446744073709551615 gone\nok ~1 gone\n\
+        0\n18446744073709551615\nsum 4294967295\nnone\nsession b1\nless\nequal\ngreater\nyes\nno\n! unset x\n! no bytes\n\
+        ! position 21 20\n! length 2147483648\n! empty 63\nhistory 0\npool 0 of 1\n";
     assert_eq!(rt; sink.bytes(), wanted.as_slice());
     Ok(())
 }
