@@ -1,9 +1,9 @@
 -- What the calls on cords leave a worker with, one step after another.
-use Rattle.std.proofs.Common.{◌≡◌, ℕ, ◌+◌, ◌<◌, ◌≤◌, List, [], ◌∷◌, ◌++◌, length, sum_by, refl, sym, ap, subst, ◌∙◌, arith}
+use Rattle.std.proofs.Common.{◌≡◌, ℕ, ◌+◌, ◌<◌, ◌≤◌, List, [], ◌∷◌, ◌++◌, length, sum_by, refl, sym, ap, subst, ◌∙◌, arith, append-nil}
 use Rattle.std.specs.List.{All}
 use Rattle.std.specs.Prelude.{Result, Ok, Err, IfOk, IfErr, IsErrAnd}
+use Rattle.std.proofs.lemmas.List.{length-append}
 use Rattle.std.proofs.lemmas.List.Elements.{All-cons, All-nil}
-use Rattle.node_forest.specs.Forest.{children}
 use Rattle.node_forest.specs.Label.{Node, number}
 use Rattle.pool_rule.specs.Gains.{Gain, no_gain, gain_then, Gained}
 use Rattle.pool_rule.specs.Notes.{Count}
@@ -11,17 +11,17 @@ use Rattle.pool_rule.specs.Trades.{Trades, SameHolds}
 use Rattle.pool_rule.specs.Views.{View, sharing, count_of}
 use Rattle.pool_rule.proofs.Gains.{gaining-none, gained-same, gained-then, saw-within}
 use Rattle.pool_rule.proofs.Trades.{trade, Trades-same}
-use Rattle.node_pool.specs.declared.calls.Left.{Left}
-use Rattle.node_pool.specs.declared.calls.Left.TheVariants.{Shared, Last}
 use Rattle.node_pool.specs.declared.refusals.NodeError.{NodeError}
 use Rattle.node_pool.specs.declared.refusals.NodeError.TheVariants.{NoNumber, HeightLimit, Memory}
-use Rattle.node_pool.specs.Answers.{noting_all, freed, number_back, left_by}
+use Rattle.node_pool.specs.Answers.{noting_all}
+use Rattle.node_pool.specs.Finishes.{IsFinished}
 use Rattle.node_pool.specs.Passes.{counted, uncounted, filled, drawn, IsPassMade}
 use Rattle.node_pool.specs.Refusals.{IsCause, IsNoted, IsOfNoHeight}
-use Rattle.node_pool.proofs.Gaining.{found_by, gained-made, gained-ended, gained-undone, gained-filled, gained-left, gained-noted, gained-drawn_and_ended, gained-pass_shared}
+use Rattle.node_pool.proofs.Gaining.{found_by, gained-made, gained-ended, gained-undone, gained-filled, gained-finished, gained-noted, gained-drawn_and_ended, gained-pass_shared}
+use Rattle.btree_node.specs.Made.{node_gain, nodes_in, IsMadeFrom, IsRefusedFrom}
 use Rattle.flat_nodes.specs.Flats.{IsAdded}
 use Rattle.flat_nodes.proofs.Flats.{gained-added}
-use Rattle.cord_value.specs.Workers.{AreBelow, Keeps}
+use Rattle.cord_value.specs.Workers.{AreBelow, Keeps, KeepsCount}
 use Rattle.cord_value.specs.declared.refusals.CordError.{CordError}
 use Rattle.cord_value.specs.declared.refusals.CordError.TheVariants as cord
 use Rattle.cord_value.specs.Refusals.{refusal_of, AreCountsOf, IsMakeRefused, IsMakeUndone, IsBalanced}
@@ -91,17 +91,13 @@ keeps-copied limit v a w made k = record {
   looks = k.looks;
 }
 
-freed-none : (answer : Left) (e : Node) → children e ≡ [] → freed answer e ≡ []
-freed-none Shared e leaf = refl
-freed-none Last e leaf = leaf
-
--- a tree is left, and its pass ends
-pub keeps-released : (limit : ℕ) (e : Node) (answer : Left) (v a w p : View) → a ≡ uncounted (drawn v p) → Trades v.holds [] p.holds a.holds → p.holds ≡ e ∷ [] → children e ≡ []
-    → w ≡ left_by answer e a → Trades a.holds (e ∷ []) (freed answer e) w.holds → Keeps limit [] 0 1 v w
-keeps-released limit e answer v a w p ended drawn_is one leaf left_is left = record {
-  holds = trade v.holds [] [] w.holds (λ f. omega (arith, drawn_is.weighs f, left.weighs f, ap (sum_by f) one, ap (sum_by f) (freed-none answer e leaf)));
-  gain = gain_then (record no_gain { ended = 1 }) (record no_gain { returned = number_back answer e });
-  gained = gained-then _ _ v a w (gained-drawn_and_ended v a p ended) (gained-left a w answer e left_is);
+-- a tree is finished, and its pass ends
+pub keeps-released : (limit : ℕ) (e : Node) (v a w p : View) → a ≡ uncounted (drawn v p) → Trades v.holds [] p.holds a.holds → p.holds ≡ e ∷ [] → IsFinished e a w → Trades a.holds (e ∷ []) [] w.holds
+    → Keeps limit [] 0 1 v w
+keeps-released limit e v a w p ended drawn_is one finished left = record {
+  holds = trade v.holds [] [] w.holds (λ f. omega (arith, drawn_is.weighs f, left.weighs f, ap (sum_by f) one));
+  gain = gain_then (record no_gain { ended = 1 }) (record no_gain { returned = finished.back });
+  gained = gained-then _ _ v a w (gained-drawn_and_ended v a p ended) (gained-finished a w e finished);
   taken = refl;
   made = refl;
   below = All-nil _;
@@ -109,6 +105,28 @@ keeps-released limit e answer v a w p ended drawn_is one leaf left_is left = rec
   used = refl;
   looks = refl;
 }
+
+-- a cord of a new tree
+pub keeps-packed : (limit : ℕ) (e : Node) (v a b c : View) → IsPassMade limit v a → IsMadeFrom [] [] a b e → c ≡ filled e b → Trades b.holds (e ∷ []) [] c.holds → KeepsCount limit (nodes_in e) 1 0 v c
+keeps-packed limit e v a b c made packed filled_is went =
+    let m = packed.gained in
+    let passes : Gain = record no_gain { counts = count_of made.found v ∷ [] } in
+    let takes = node_gain m.numbers m.found m.back m.shares in
+    record {
+      numbers = m.numbers;
+      count_is = omega (arith, packed.took, ap (λ (z : View). length z.taken) m.is, length-append a.taken m.numbers);
+      keeps = record {
+        holds = (let same = ap (λ (z : View). z.holds) made.view in trade v.holds [] [] c.holds (λ f. omega (arith, packed.traded.weighs f, went.weighs f, ap (sum_by f) same)));
+        gain = gain_then (gain_then passes takes) no_gain;
+        gained = gained-then (gain_then passes takes) no_gain v b c (gained-then passes takes v a b (gained-made limit v a made) m.is) (gained-filled b c e filled_is);
+        taken = append-nil m.numbers;
+        made = refl;
+        below = one-below limit (count_of made.found v) made.less;
+        ended = refl;
+        used = refl;
+        looks = refl;
+      };
+    }
 
 -- what doesn't depend on the result
 pub if-ok : {T E : Type 0} (r : Result T E) (K : Type 0) → K → IfOk r (λ _. K)
@@ -121,7 +139,6 @@ balanced-length limit asked v w same = record {
   holds = Trades-same v.holds w.holds (ap (λ (z : View). z.holds) same);
   gain = no_gain;
   gained = gained-same v w same;
-  taken = refl;
   counts = All-nil _;
   ended = refl;
   used = refl;
@@ -134,7 +151,6 @@ balanced-limit limit found v w reached is = record {
   holds = Trades-same v.holds w.holds (ap (λ (z : View). z.holds) is);
   gain = record no_gain { counts = count_of found v ∷ []; ended = 1 };
   gained = gained-undone v w found is;
-  taken = refl;
   counts = ([], count_of found v, refl, All-nil _, refl, reached);
   ended = refl;
   used = refl;
@@ -165,25 +181,53 @@ balanced-refused limit x v a b c made noted ended_is =
       holds = Trades-same v.holds c.holds (ap (λ (z : View). z.holds) ended_is ∙ (holds-noted x a b noted ∙ ap (λ (z : View). z.holds) made.view));
       gain = gain_then (gain_then passes tries) ends;
       gained = gained-then (gain_then passes tries) ends v b c (gained-then passes tries v a b (gained-made limit v a made) (gained-noted x a b noted)) (gained-ended b c ended_is);
-      taken = refl;
       counts = AreGiven limit x (count_of made.found v ∷ []) (one-below limit (count_of made.found v) made.less);
       ended = refl;
       used = refl;
       looks = refl;
     }
 
-pub undone-refused : (limit : ℕ) (x : NodeError) (v a b c : View) → IsPassMade limit v a → IsOfNoHeight x → IsNoted x a b → c ≡ uncounted b → IsMakeUndone limit (refusal_of x) v c
-undone-refused limit (NoNumber seen) v a b c made low noted ended_is = record {
+pub balanced-packed : (size limit : ℕ) (x : NodeError) (v a b c : View) → IsPassMade limit v a → IsRefusedFrom size [] x a b → c ≡ uncounted b → IsBalanced limit (refusal_of x) v c
+balanced-packed size limit x v a b c made refused ended_is =
+    let m = refused.gained in
+    let passes : Gain = record no_gain { counts = count_of made.found v ∷ [] } in
+    let takes = node_gain m.numbers m.found m.back m.shares in
+    let ends : Gain = record no_gain { ended = 1 } in
+    record {
+      holds = trade v.holds [] [] c.holds (λ f. omega (arith, refused.traded.weighs f, ap (λ (z : View). sum_by f z.holds) made.view, ap (λ (z : View). sum_by f z.holds) ended_is));
+      gain = gain_then (gain_then passes takes) ends;
+      gained = gained-then (gain_then passes takes) ends v b c (gained-then passes takes v a b (gained-made limit v a made) m.is) (gained-ended b c ended_is);
+      counts = AreGiven limit x (count_of made.found v ∷ []) (one-below limit (count_of made.found v) made.less);
+      ended = refl;
+      used = refl;
+      looks = refl;
+    }
+
+pub undone-refused : (limit n : ℕ) (x : NodeError) (v a b c : View) → IsPassMade limit v a → IsOfNoHeight x → (n ≤ 4083 → IsNoted x a b) → c ≡ uncounted b → IsMakeUndone limit n (refusal_of x) v c
+undone-refused limit n (NoNumber seen) v a b c made low noted ended_is = λ le. record {
   live = made.found;
   less = made.less;
-  found = noted.0;
-  count = noted.1;
-  view = ended_is ∙ (ap uncounted noted.2 ∙ ap (λ (z : View). uncounted (noting_all noted.0 z)) made.view);
+  found = (noted le).0;
+  count = (noted le).1;
+  view = ended_is ∙ (ap uncounted (noted le).2 ∙ ap (λ (z : View). uncounted (noting_all (noted le).0 z)) made.view);
 }
-undone-refused limit (HeightLimit height) v a b c made low noted ended_is = absurd low
-undone-refused limit Memory v a b c made low noted ended_is = record { live = made.found; less = made.less; view = ended_is ∙ (ap uncounted noted ∙ ap uncounted made.view) }
+undone-refused limit n (HeightLimit height) v a b c made low noted ended_is = absurd low
+undone-refused limit n Memory v a b c made low noted ended_is = λ le. record { live = made.found; less = made.less; view = ended_is ∙ (ap uncounted (noted le) ∙ ap uncounted made.view) }
 
-pub cause-refused : (size limit n : ℕ) (x : NodeError) (v a b c : View) → 15 < n → n ≤ 4083 → IsPassMade limit v a → IsOfNoHeight x → IsCause size x a b → c ≡ uncounted b → IsMakeRefused size limit n (refusal_of x) v c
+taken-noted : (x : NodeError) (v w : View) → IsNoted x v w → w.taken ≡ v.taken
+taken-noted (NoNumber seen) v w is = ap (λ (z : View). z.taken) is.2
+taken-noted (HeightLimit height) v w is = ap (λ (z : View). z.taken) is
+taken-noted Memory v w is = ap (λ (z : View). z.taken) is
+
+-- no number was taken
+pub untaken-refused : (limit : ℕ) (x : NodeError) (v a b c : View) → IsPassMade limit v a → IsNoted x a b → c ≡ uncounted b → c.taken ≡ v.taken
+untaken-refused limit x v a b c made noted ended_is = ap (λ (z : View). z.taken) ended_is ∙ taken-noted x a b noted ∙ ap (λ (z : View). z.taken) made.view
+
+-- no share was made
+pub unshared-made : (size limit : ℕ) (e : Node) (v a b c : View) → IsPassMade limit v a → IsAdded size a b e → c ≡ filled e b → c.shares ≡ v.shares
+unshared-made size limit e v a b c made added filled_is = ap (λ (z : View). z.shares) filled_is ∙ ap (λ (z : View). z.shares) added.view ∙ ap (λ (z : View). z.shares) made.view
+
+pub cause-refused : (size limit n : ℕ) (x : NodeError) (v a b c : View) → 15 < n → n ≤ 2147483647 → IsPassMade limit v a → IsOfNoHeight x → IsCause size x a b → c ≡ uncounted b → IsMakeRefused size limit n (refusal_of x) v c
 cause-refused size limit n (NoNumber seen) v a b c long short made low cause ended_is =
     (long, short, cause.0, saw-within size (record no_gain { counts = count_of made.found v ∷ [] }) (record no_gain { ended = 1 }) v a b c (gained-made limit v a made) cause.1 (gained-ended b c ended_is))
 cause-refused size limit n (HeightLimit height) v a b c long short made low cause ended_is = absurd low

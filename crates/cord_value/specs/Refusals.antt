@@ -40,19 +40,19 @@ pub record IsNumberUndone (limit seen : ℕ) (v w : View) : Type 0 where
 -- ---- causes
 -- of a cord that was to have so many bytes
 abbrev pub IsMakeRefused : ℕ → ℕ → ℕ → CordError → View → View → Type 0
-IsMakeRefused size limit n (LengthLimit asked) v w = (asked ≡ n) × (4083 < n)
-IsMakeRefused size limit n (PassLimit found) v w = (15 < n) × (n ≤ 4083) × (limit ≤ found)
-IsMakeRefused size limit n (NoNumber seen) v w = (15 < n) × (n ≤ 4083) × (seen ≡ size) × SawAll size v w
-IsMakeRefused size limit n Memory v w = (15 < n) × (n ≤ 4083)
+IsMakeRefused size limit n (LengthLimit asked) v w = (asked ≡ n) × (2147483647 < n)
+IsMakeRefused size limit n (PassLimit found) v w = (15 < n) × (n ≤ 2147483647) × (limit ≤ found)
+IsMakeRefused size limit n (NoNumber seen) v w = (15 < n) × (n ≤ 2147483647) × (seen ≡ size) × SawAll size v w
+IsMakeRefused size limit n Memory v w = (15 < n) × (n ≤ 2147483647)
 IsMakeRefused size limit n _ v w = ⊥
 
--- which steps were made, and no others
-abbrev pub IsMakeUndone : ℕ → CordError → View → View → Type 0
-IsMakeUndone limit (LengthLimit asked) v w = w ≡ v
-IsMakeUndone limit (PassLimit found) v w = IsPassRefused limit found v w
-IsMakeUndone limit (NoNumber seen) v w = IsNumberUndone limit seen v w
-IsMakeUndone limit Memory v w = IsPassUndone limit v w
-IsMakeUndone limit _ v w = ⊥
+-- which steps were made, and no others; of a tree of more than one flat some of its nodes may have been made and left again
+abbrev pub IsMakeUndone : ℕ → ℕ → CordError → View → View → Type 0
+IsMakeUndone limit n (LengthLimit asked) v w = w ≡ v
+IsMakeUndone limit n (PassLimit found) v w = IsPassRefused limit found v w
+IsMakeUndone limit n (NoNumber seen) v w = n ≤ 4083 → IsNumberUndone limit seen v w
+IsMakeUndone limit n Memory v w = n ≤ 4083 → IsPassUndone limit v w
+IsMakeUndone limit n _ v w = ⊥
 
 -- of a copy: a cord without a tree has none
 abbrev pub IsCopyRefused : ℕ → Option Node → CordError → View → View → Type 0
@@ -67,12 +67,11 @@ AreCountsOf limit (PassLimit found) counts = (given : List Count) × (last : Cou
     × (last.found ≡ found) × (limit ≤ found)
 AreCountsOf limit _ counts = AreBelow limit counts
 
--- the worker holds what it held before, took no number, and ended each pass that it made
+-- the worker holds what it held before, and ended each pass that it made
 pub record IsBalanced (limit : ℕ) (x : CordError) (v w : View) : Type 0 where
   pub holds : SameHolds v.holds w.holds
   pub gain : Gain
   pub gained : Gained gain v w
-  pub taken : gain.taken ≡ []
   pub counts : AreCountsOf limit x gain.counts
   pub ended : gain.ended ≡ length gain.counts
   pub used : gain.used ≡ []

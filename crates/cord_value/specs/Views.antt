@@ -1,10 +1,13 @@
 -- What contracts see of a cord.
-use Rattle.std.specs.Prelude.{ℕ, ◌≡◌, ◌<◌, ◌≤◌, List, [], ◌∷◌, length, Option, Some, None, refl}
+use Rattle.std.specs.Prelude.{ℕ, ◌≡◌, ◌<◌, ◌≤◌, List, [], ◌∷◌, length, Option, Some, None, option_map, refl}
 use Rattle.std.specs.Coded.{Coded, code_by, coded×, coded_ℕ, coded_list, coded_option}
 use Rattle.node_forest.specs.Label.{Node, number}
 use Rattle.node_forest.specs.Codes.{coded_node}
+use Rattle.tree_shapes.specs.Cords.{CordShape}
 use Rattle.node_edges.specs.Text.{text}
-use Rattle.node_edges.specs.Trees.{IsWellFormed}
+use Rattle.node_edges.specs.Trees.{shape_of, IsWellFormed}
+use Rattle.btree_node.specs.Made.{nodes_in}
+use Rattle.chunk_reader.specs.Readings.{Reading}
 
 -- its bytes, and its tree where it has one
 pub record CordView : Type 0 where
@@ -14,6 +17,10 @@ pub record CordView : Type 0 where
 abbrev pub coded_cord : Coded CordView
 coded_cord = code_by (List ℕ × Option Node) (coded× (coded_list coded_ℕ) (coded_option coded_node)) (λ c. (c.bytes, c.tree))
     (λ p. record { bytes = p.0; tree = p.1 }) (λ _. refl)
+
+-- how many bytes it has, and the shape of its tree
+abbrev pub cord_shape : CordView → CordShape
+cord_shape c = record { size = length c.bytes; tree = option_map shape_of c.tree }
 
 -- there is a tree exactly where there are more than 15 bytes; it is well formed, and its text is the bytes
 abbrev pub IsTreeOf : List ℕ → Option Node → Type 0
@@ -29,3 +36,12 @@ numbers_of (Some e) = number e ∷ []
 abbrev pub passes_of : Option Node → ℕ
 passes_of None = 0
 passes_of (Some e) = 1
+
+-- how many nodes a tree has
+abbrev pub nodes_of : Option Node → ℕ
+nodes_of None = 0
+nodes_of (Some e) = nodes_in e
+
+-- a reading of the bytes from the first on
+abbrev pub from_start : CordView → Reading
+from_start c = record { tree = c.tree; bytes = c.bytes; at = 0 }

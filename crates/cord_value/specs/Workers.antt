@@ -21,3 +21,9 @@ pub record Keeps (limit : ℕ) (numbers : List ℕ) (new gone : ℕ) (v w : View
   pub ended : gain.ended ≡ gone
   pub used : gain.used ≡ []
   pub looks : gain.looks ≡ []
+
+-- the same with so many numbers
+pub record KeepsCount (limit count new gone : ℕ) (v w : View) : Type 0 where
+  pub numbers : List ℕ
+  pub count_is : length numbers ≡ count
+  pub keeps : Keeps limit numbers new gone v w

@@ -25,6 +25,7 @@ impl<P: Naming> Cord<P> {
         ensures untried { IfOk result (λ _. w.new.full ≡ w.old.full) }
         ensures refused { IfErr result (λ x. IsCopyRefused P.limit self.old.tree x w.old w.new) }
         ensures balanced { IfErr result (λ x. IsBalanced P.limit x w.old w.new) }
+        ensures untaken { IfErr result (λ _. w.new.taken ≡ w.old.taken) }
     {
         if let Form::Inline(bytes) = &self.form {
             return Ok(Cord {

@@ -1,22 +1,32 @@
 //! Cords, their bytes and their trees.
 ghost use Rattle.std.specs.Prelude.{◌≡◌, ◌↔◌, ◌+◌, ◌<◌, ◌≤◌, [], ◌∷◌, length, None, IsSome, IsTrue, IfOk, IfErr, IfSome};
-ghost use Rattle.node_edges.specs.Trees.{shape_of};
-ghost use Rattle.tree_shapes.specs.Flats.{flat_shape};
-ghost use Rattle.cord_value.specs.Workers.{Keeps};
+ghost use Rattle.tree_shapes.specs.Cords.{cord_of_bytes};
+ghost use Rattle.tree_shapes.specs.Flats.{new_shape};
+ghost use Rattle.tree_shapes.specs.Shape.{IsTree};
+ghost use Rattle.node_edges.specs.Text.{text};
+ghost use Rattle.node_edges.specs.Trees.{shape_of, IsFilled};
+ghost use Rattle.node_pool.specs.Refusals.{IsNoted};
+ghost use Rattle.flat_nodes.specs.Flats.{IsAdded};
+ghost use Rattle.btree_node.specs.Made.{IsMadeFrom, IsRefusedFrom};
+ghost use Rattle.cord_value.specs.Workers.{Keeps, KeepsCount};
 ghost use Rattle.cord_value.specs.Refusals.{IsMakeRefused, IsMakeUndone, IsBalanced};
-ghost use Rattle.cord_value.specs.Views.{IsTreeOf, numbers_of, passes_of};
+ghost use Rattle.cord_value.specs.Views.{IsTreeOf, cord_shape, nodes_of, numbers_of, passes_of};
 
 use crate::inline::{MOST_INLINE, inline_of};
 use crate::refusals::CordError;
 use arrayvec::ArrayVec;
+use btree_edit::from_pieces;
 use cord_port::Releaser;
 use flat_nodes::new_flat;
-use node_edges::texts_are_as_long_as_edges_say;
-use node_pool::{Edge, Naming, Pass, Pool, Worker};
+use node_edges::{texts_are_as_long_as_edges_say, ways_down_are_short};
+use node_pool::{Edge, Naming, NodeError, Pass, Pool, Worker};
 use std::alloc::Global;
 use std::marker::Model;
 
-/// The most bytes of a cord until trees grow, which is the highest capacity of a flat.
+/// The most bytes of a cord.
+pub(crate) const MOST_BYTES: usize = 2_147_483_647;
+
+/// The highest capacity of a flat.
 const MOST_IN_A_FLAT: usize = 4083;
 
 /// A list of bytes that is cheap to copy. At most 15 bytes stand inline, and more in a tree, which a pass keeps between calls.
@@ -58,7 +68,7 @@ impl<P: Naming> Cord<P> {
         }
     }
 
-    /// A cord of these bytes. More than 15 take a pass first, and then one number for a flat.
+    /// A cord of these bytes. More than 15 take a pass first, and then a number for each node of their tree.
     pub fn from_bytes<B: Releaser>(
         alloc: Global,
         pool: &Pool<P, B>,
@@ -69,25 +79,27 @@ impl<P: Naming> Cord<P> {
         ensures bytes { IfOk result (λ c. c.bytes ≡ bytes.now) }
         ensures tree { IfOk result (λ c. IsSome c.tree ↔ (15 < length bytes.now)) }
         ensures formed { IfOk result (λ c. IsTreeOf c.bytes c.tree) }
-        ensures shape { IfOk result (λ c. IfSome c.tree (λ e. shape_of e ≡ flat_shape (length bytes.now))) }
-        ensures worker { IfOk result (λ c. Keeps P.limit (numbers_of c.tree) (passes_of c.tree) 0 w.old w.new) }
-        ensures unshared { IfOk result (λ _. w.new.shares ≡ w.old.shares) }
-        ensures short { IfOk result (λ _. length bytes.now ≤ 4083) }
+        ensures shape { IfOk result (λ c. cord_shape c ≡ cord_of_bytes (length bytes.now)) }
+        ensures numbers { IfOk result (λ c. KeepsCount P.limit (nodes_of c.tree) (passes_of c.tree) 0 w.old w.new) }
+        ensures worker { length bytes.now ≤ 4083 → IfOk result (λ c. Keeps P.limit (numbers_of c.tree) (passes_of c.tree) 0 w.old w.new) }
+        ensures unshared { length bytes.now ≤ 4083 → IfOk result (λ _. w.new.shares ≡ w.old.shares) }
+        ensures short { IfOk result (λ _. length bytes.now ≤ 2147483647) }
         ensures refused { IfErr result (λ x. IsMakeRefused P.size P.limit (length bytes.now) x w.old w.new) }
-        ensures steps { IfErr result (λ x. IsMakeUndone P.limit x w.old w.new) }
+        ensures steps { IfErr result (λ x. IsMakeUndone P.limit (length bytes.now) x w.old w.new) }
         ensures balanced { IfErr result (λ x. IsBalanced P.limit x w.old w.new) }
+        ensures untaken { length bytes.now ≤ 4083 → IfErr result (λ _. w.new.taken ≡ w.old.taken) }
     {
         if bytes.len() <= MOST_INLINE {
             return Ok(Cord {
                 form: Form::Inline(inline_of(bytes)),
             });
         }
-        if bytes.len() > MOST_IN_A_FLAT {
+        if bytes.len() > MOST_BYTES {
             let asked = bytes.len() as u64;
             return Err(CordError::LengthLimit { asked });
         }
         let mut pass = pool.pass(w)?;
-        match new_flat(alloc, pool, w, bytes) {
+        match new_tree(alloc, pool, w, bytes) {
             Ok(root) => {
                 pool.fill(w, &mut pass, &root);
                 Ok(Cord {
@@ -133,8 +145,33 @@ impl<P: Naming> Cord<P> {
             Form::Inline(_) => {}
             Form::Tree { pass, root } => {
                 pool.draw_and_end(w, pass);
-                pool.leave(w, &root);
+                pool.finish(w, &root);
             }
         }
+    }
+}
+
+/// A tree of these bytes: one flat, or Branches over flats.
+fn new_tree<P: Naming, B: Releaser>(
+    alloc: Global,
+    pool: &Pool<P, B>,
+    w: &mut Worker<P>,
+    bytes: &[u8],
+) -> Result<Edge, NodeError>
+    requires some { 0 < length bytes.now }
+    requires short { length bytes.now ≤ 2147483647 }
+    requires room { length w.old.holds ≤ 128 }
+    ensures tree { IfOk result (λ e. IsTree (shape_of e) × IsFilled e) }
+    ensures shape { IfOk result (λ e. shape_of e ≡ new_shape (length bytes.now)) }
+    ensures text { IfOk result (λ e. text e ≡ bytes.now) }
+    ensures made { IfOk result (λ e. IsMadeFrom [] [] w.old w.new e) }
+    ensures added { length bytes.now ≤ 4083 → IfOk result (λ e. IsAdded P.size w.old w.new e) }
+    ensures refused { IfErr result (λ x. IsRefusedFrom P.size [] x w.old w.new) }
+    ensures noted { length bytes.now ≤ 4083 → IfErr result (λ x. IsNoted x w.old w.new) }
+{
+    if bytes.len() <= MOST_IN_A_FLAT {
+        new_flat(alloc, pool, w, bytes)
+    } else {
+        from_pieces(alloc, pool, w, bytes)
     }
 }

@@ -4,6 +4,7 @@
 mod copies;
 mod cord;
 mod inline;
+mod reading;
 mod refusals;
 #[cfg(test)]
 mod tests;

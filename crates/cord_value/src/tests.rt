@@ -65,23 +65,61 @@ fn seen_of<P: Naming>(
 }
 
 #[test]
-fn more_than_15_bytes_stand_in_a_tree_and_more_than_4083_are_refused(rt: HostRuntime) {
+fn cords_take_a_number_for_each_node_and_one_too_few_is_told(rt: HostRuntime) {
     let alloc = rt.alloc();
-    let refused = CordError::LengthLimit { asked: 4084 };
-    for (size, seen) in [
-        (0usize, Ok((0u64, false))),
-        (15, Ok((15, false))),
-        (16, Ok((16, true))),
-        (4083, Ok((4083, true))),
-        (4084, Err(refused)),
+    for (numbers, size, seen) in [
+        (1u32, 0usize, Ok((0u64, false))),
+        (1, 15, Ok((15, false))),
+        (1, 16, Ok((16, true))),
+        (1, 4083, Ok((4083, true))),
+        (3, 4084, Ok((4084, true))),
+        (2, 4084, Err(CordError::NoNumber { seen: 2 })),
+        (10, 28_581, Ok((28_581, true))),
+        (9, 28_581, Err(CordError::NoNumber { seen: 9 })),
     ] {
-        let Ok(opened) = Opened::start(alloc, 2, 1, 1, Vec::new(alloc)) else {
+        let Ok(opened) = Opened::start(alloc, numbers, 1, 1, Vec::new(alloc)) else {
             assert!(&rt; false, "memory");
             return;
         };
         let answer = seen_of::<Brand>(alloc, opened, size);
         assert_eq!(rt; answer, Some((seen, 0)), "at {size}");
     }
+}
+
+/// Of a cord of seven flats: the places of the two Branches over the byte at 24,498, and how many bytes a reading of one byte gives there.
+fn read_behind_six_flats<P: Naming>(
+    alloc: Global,
+    opened: Opened<Boxes>,
+) -> Option<(usize, usize, usize)>
+    requires table { opened_table opened ≡ P.table }
+    requires numbers { opened_numbers opened ≡ P.size }
+    requires passes { opened_passes opened ≡ P.limit }
+    requires boxes { opened_boxes opened ≡ P.boxes }
+    requires workers { (opened_workers opened ≡ P.workers) × (P.workers ≡ 1) }
+{
+    let bytes = vec![in alloc; 120u8; 28_581].ok()?;
+    let (pool, mut workers) = opened.named::<P>(alloc).ok()?;
+    let cord = Cord::from_bytes(alloc, &pool, &mut workers[0], bytes.as_slice()).ok()?;
+    let mut reading = cord.chunks();
+    reading.seek(24_498.min(cord.len()));
+    let path = reading.path();
+    if path.len() != 2 {
+        return None;
+    }
+    let (_, upper) = path[0];
+    let (_, lower) = path[1];
+    Some((upper, lower, reading.read(1).len()))
+}
+
+#[test]
+fn path_leads_to_the_seventh_flat(rt: HostRuntime) {
+    let alloc = rt.alloc();
+    let Ok(opened) = Opened::start(alloc, 16, 1, 1, Vec::new(alloc)) else {
+        assert!(&rt; false, "memory");
+        return;
+    };
+    let seen = read_behind_six_flats::<Brand>(alloc, opened);
+    assert_eq!(rt; seen, Some((1, 0, 1)));
 }
 
 /// The numbers of a cord and of its copy, after the cord went.
