@@ -1,0 +1,4 @@
+-- The lemmas of this crate.
+pub mod ExternalLaws
+pub mod GainLaws
+pub mod PieceLaws
