@@ -2,7 +2,7 @@
 use Rattle.std.proofs.Common.{ℕ, ◌≡◌, ◌<◌, ◌≤◌, List, ◌∷◌, length, refl, sym, ap, subst, ◌∙◌, arith}
 use Rattle.node_forest.specs.Label.{Node}
 use Rattle.node_edges.specs.Text.{text}
-use Rattle.node_edges.specs.Trees.{shape_of, IsFilled, IsWellFormed}
+use Rattle.node_edges.specs.Trees.{shape_of, IsFilled, IsTreeAt, IsWellFormed}
 use Rattle.tree_shapes.specs.Cords.{external_shape}
 use Rattle.tree_shapes.specs.Shape.{level}
 use Rattle.edge_nodes.specs.Externals.{external_node, first_slot}
@@ -30,6 +30,10 @@ formed-external n slot bytes some small = record {
   filled = (refl, tt);
 }
 
+data-external : (n slot : ℕ) (bytes : List ℕ) → 0 < length bytes → length bytes ≤ 2147483647 → IsTreeAt 0 (external_node n bytes slot)
+unfolding shape_of IsFilled level
+data-external n slot bytes some small = record { at = refl; node = record { some = some; small = small }; filled = (refl, tt) }
+
 module _ (e : Node) (bytes : List ℕ) (slot : ℕ) (is : e ≡ external_node e.0.number bytes slot) where
   pub text-made : text e ≡ bytes
   text-made = ap text is ∙ text-external e.0.number slot bytes
@@ -39,3 +43,6 @@ module _ (e : Node) (bytes : List ℕ) (slot : ℕ) (is : e ≡ external_node e.
 
   pub formed-made : 0 < length bytes → length bytes ≤ 2147483647 → IsWellFormed e
   formed-made some small = subst IsWellFormed (sym is) (formed-external e.0.number slot bytes some small)
+
+  pub data-made : 0 < length bytes → length bytes ≤ 2147483647 → IsTreeAt 0 e
+  data-made some small = subst (IsTreeAt 0) (sym is) (data-external e.0.number slot bytes some small)

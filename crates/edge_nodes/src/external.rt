@@ -2,7 +2,7 @@
 ghost use Rattle.std.specs.Prelude.{◌≡◌, ◌≢◌, ◌≤◌, [], ◌∷◌, length, IfOk, IfErr};
 ghost use Rattle.tree_shapes.specs.Cords.{external_shape};
 ghost use Rattle.node_edges.specs.Text.{text};
-ghost use Rattle.node_edges.specs.Trees.{shape_of, IsWellFormed};
+ghost use Rattle.node_edges.specs.Trees.{shape_of, IsTreeAt, IsWellFormed};
 ghost use Rattle.pool_rule.specs.Trades.{SameHolds, Trades};
 ghost use Rattle.node_pool.specs.Answers.{IsTaken};
 ghost use Rattle.node_pool.specs.Refusals.{IsCause, IsNoted, IsOfNoHeight};
@@ -27,6 +27,7 @@ pub fn new_external<P: Naming, B: Releaser>(
     ensures node { IfOk result (λ e. e ≡ external_node e.0.number bytes.now (first_slot w.old.unused)) }
     ensures text { IfOk result (λ e. text e ≡ bytes.now) }
     ensures formed { IfOk result (λ e. IsWellFormed e) }
+    ensures data { IfOk result (λ e. IsTreeAt 0 e) }
     ensures shape { IfOk result (λ e. shape_of e ≡ external_shape (length bytes.now)) }
     ensures taken { IfOk result (λ e. IsTaken P.size w.old w.new e) }
     ensures traded { IfOk result (λ e. Trades w.old.holds [] (e ∷ []) w.new.holds) }
