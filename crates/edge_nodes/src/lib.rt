@@ -3,6 +3,8 @@
 
 mod external;
 mod part;
+#[cfg(test)]
+mod tests;
 
 pub use external::new_external;
 pub use node_pool::{Edge, NodeError};
