@@ -3,3 +3,4 @@ pub mod Says
 pub mod Counts
 pub mod EndingLaws
 pub mod Through
+pub mod FeedingLaws

@@ -2,3 +2,4 @@ pub mod Asks
 pub mod Emptying
 pub mod Endings
 pub mod Parts
+pub mod Feeding

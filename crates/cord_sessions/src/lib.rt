@@ -4,6 +4,7 @@
 mod asked;
 mod buffered;
 mod ending;
+mod feeding;
 mod laws;
 mod running;
 mod script_run;

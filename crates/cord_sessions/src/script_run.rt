@@ -1,10 +1,13 @@
-//! A script that was read: run and written, or counted.
-ghost use Rattle.std.specs.Prelude.{◌≡◌, ◌≤◌, ◌^◌, ◌<◌, ◌⊎◌, length, OnOk, OnErr};
+//! A script whose bytes were fed: run and written, or counted.
+ghost use Rattle.std.specs.Prelude.{◌≡◌, ℕ, ◌≤◌, ◌^◌, ◌<◌, ◌⊎◌, List, length, Err, IfOk, OnOk, OnErr};
 ghost use Rattle.std.specs.List.{sum_by};
 ghost use Rattle.script_words.specs.Causes.{word_of_cause};
+ghost use Rattle.script_reader.specs.declared.fault.ScriptError.{ScriptError as ScriptError_value};
+ghost use Rattle.script_reader.specs.Fed.{HasGot};
+ghost use Rattle.script_reader.specs.ScriptSpelling.{Spells};
+ghost use Rattle.script_reader.specs.Faults.{IsFirstFault};
 ghost use Rattle.script_reader.specs.Limits.{IsWithinLimits};
 ghost use Rattle.report_text.specs.Outputs.{IsPrintable, output_text, refusal_line};
-ghost use Rattle.cord_sessions.specs.declared.ending.TheConstants.{MOST_SCRIPT};
 ghost use Rattle.cord_sessions.specs.declared.asked.Asked.TheVariants as asked;
 ghost use Rattle.cord_sessions.specs.Endings.{Told, check_line};
 ghost use Rattle.std.specs.Io.KnownBytes.{Appends};
@@ -18,7 +21,7 @@ use cord_port::{Failed, Gate, Releaser, Sink};
 use plain_cord::{Script, Session};
 use report_text::{write_refusal, write_run, write_summary};
 use run_laws::plain_runs_within_limits_are_printable;
-use script_reader::{ReadRefused, read_script};
+use script_reader::{ReadRefused, ScriptFeed};
 use std::alloc::Global;
 use std::sync::Wait;
 use std::thread::Threads;
@@ -31,20 +34,30 @@ fn tell_refusal<K: Sink>(number: u32, word: &[u8], sink: &mut K)
     let _ = write_refusal(number, word, sink);
 }
 
-/// Runs the script that the bytes spell, or tells their first fault.
-pub fn run_bytes<R: Threads + Wait + Sync, K: Sink, G: Gate + Sync>(
+// The script that the feed got, or its first fault.
+fn finish_script(feed: ScriptFeed) -> Result<Script, ReadRefused>
+    requires { (bytes : List ℕ) × HasGot feed bytes }
+    ensures found { (bytes : List ℕ) → HasGot feed bytes → IfOk result (λ s. Spells bytes s) }
+    ensures first { (bytes : List ℕ) (e : ScriptError_value) → HasGot feed bytes → result ≡ Err (ReadRefused.Script e) → IsFirstFault bytes e }
+    ensures limits { IfOk result IsWithinLimits }
+{
+    feed.finish()
+}
+
+/// Runs the script that the feed got, or tells its first fault.
+pub fn run_fed<R: Threads + Wait + Sync, K: Sink, G: Gate + Sync>(
     rt: &R,
     alloc: Global,
-    bytes: &[u8],
+    feed: ScriptFeed,
     sink: &mut K,
     gate: &G,
     releasers: Vec<Box<dyn Releaser + Send>>,
 ) -> Ended
-    requires { length bytes.now ≤ MOST_SCRIPT }
-    ensures says { SaysOfBytes asked.Run bytes.now (K.held sink.old) (K.held sink.new) (K.faults sink.old) (K.faults sink.new) result.ending }
+    requires { (bytes : List ℕ) × HasGot feed bytes }
+    ensures says { (bytes : List ℕ) → HasGot feed bytes → SaysOfBytes asked.Run bytes (K.held sink.old) (K.held sink.new) (K.faults sink.old) (K.faults sink.new) result.ending }
     ensures returned { result.returned ≡ releasers }
 {
-    let script = match read_script(alloc, bytes) {
+    let script = match finish_script(feed) {
         Ok(script) => script,
         Err(ReadRefused::Memory) => {
             return Ended {
@@ -92,12 +105,12 @@ fn write_out<K: Sink>(script: &Script, run: &Run, sink: &mut K) -> Ending
     }
 }
 
-/// Tells how much the script has that the bytes spell, or their first fault.
-pub fn check_bytes<K: Sink>(alloc: Global, bytes: &[u8], sink: &mut K) -> Ending
-    requires { length bytes.now ≤ MOST_SCRIPT }
-    ensures { SaysOfBytes asked.Check bytes.now (K.held sink.old) (K.held sink.new) (K.faults sink.old) (K.faults sink.new) result }
+/// Tells how much the script has that the feed got, or its first fault.
+pub fn check_fed<K: Sink>(feed: ScriptFeed, sink: &mut K) -> Ending
+    requires { (bytes : List ℕ) × HasGot feed bytes }
+    ensures { (bytes : List ℕ) → HasGot feed bytes → SaysOfBytes asked.Check bytes (K.held sink.old) (K.held sink.new) (K.faults sink.old) (K.faults sink.new) result }
 {
-    let script = match read_script(alloc, bytes) {
+    let script = match finish_script(feed) {
         Ok(script) => script,
         Err(ReadRefused::Memory) => return Ending::Memory,
         Err(ReadRefused::Script(error)) => {

@@ -6,9 +6,10 @@ ghost use Rattle.cord_sessions.specs.Parts.{TellsUnread};
 ghost use Rattle.cord_sessions.specs.declared.asked.Asked.TheVariants.{Run, Check};
 
 use crate::asked::{Asked, command_of};
-use crate::ending::{Ended, Ending, MOST_SCRIPT};
-use crate::script_run::{check_bytes, run_bytes};
-use cord_port::{Gate, ReadRefused, Releaser, Sink, Source, read_all, write_all};
+use crate::ending::{Ended, Ending};
+use crate::feeding::feed_source;
+use crate::script_run::{check_fed, run_fed};
+use cord_port::{Gate, ReadRefused, Releaser, Sink, Source, write_all};
 use std::alloc::Global;
 use std::sync::Wait;
 use std::thread::Threads;
@@ -56,8 +57,8 @@ fn run_to_end<R: Threads + Wait + Sync, S: Source, K: Sink, G: Gate + Sync>(
         (outside S.left S.given S.faults K.held K.faults source.old source.new sink.old sink.new) result.ending }
     ensures returned { result.returned ≡ releasers }
 {
-    match read_all(alloc, source, MOST_SCRIPT) {
-        Ok(bytes) => run_bytes(rt, alloc, &bytes, sink, gate, releasers),
+    match feed_source(alloc, source) {
+        Ok(feed) => run_fed(rt, alloc, feed, sink, gate, releasers),
         Err(refused) => Ended {
             ending: tell_unread(refused, sink),
             returned: releasers,
@@ -69,8 +70,8 @@ fn check_to_end<S: Source, K: Sink>(alloc: Global, source: &mut S, sink: &mut K)
     ensures { SaysOf Check
         (outside S.left S.given S.faults K.held K.faults source.old source.new sink.old sink.new) result }
 {
-    match read_all(alloc, source, MOST_SCRIPT) {
-        Ok(bytes) => check_bytes(alloc, &bytes, sink),
+    match feed_source(alloc, source) {
+        Ok(feed) => check_fed(feed, sink),
         Err(refused) => tell_unread(refused, sink),
     }
 }
@@ -116,8 +117,8 @@ pub fn do_asked<R: Threads + Wait + Sync, S: Source, K: Sink, G: Gate + Sync>(
     }
 }
 
-/// Does what the words ask for. `run` reads a script from the source to its end, runs it, and writes its text to the
-/// sink; `check` tells how much the script has. The boxes come back as they were.
+/// Does what the words ask for. `run` reads a script from the source to its end, line by line as its bytes come, runs it,
+/// and writes its text to the sink; `check` tells how much the script has. The boxes come back as they were.
 pub fn run_program<R: Threads + Wait + Sync, S: Source, K: Sink, G: Gate + Sync>(
     rt: &R,
     alloc: Global,
