@@ -1,15 +1,14 @@
 -- What the calls on cords leave a worker with, one step after another.
-use Rattle.std.proofs.Common.{◌≡◌, ℕ, ◌+◌, ◌<◌, ◌≤◌, List, [], ◌∷◌, ◌++◌, length, sum_by, refl, sym, ap, subst, ◌∙◌, arith, append-nil}
-use Rattle.std.specs.List.{All}
+use Rattle.std.proofs.Common.{◌≡◌, ℕ, ◌<◌, ◌≤◌, List, [], ◌∷◌, length, sum_by, refl, sym, ap, subst, ◌∙◌, arith, append-nil}
 use Rattle.std.specs.Prelude.{Result, Ok, Err, IfOk, IfErr, IsErrAnd}
 use Rattle.std.proofs.lemmas.List.{length-append}
 use Rattle.std.proofs.lemmas.List.Elements.{All-cons, All-nil}
 use Rattle.node_forest.specs.Label.{Node, number}
-use Rattle.pool_rule.specs.Gains.{Gain, no_gain, gain_then, Gained}
+use Rattle.pool_rule.specs.Gains.{Gain, no_gain, gain_then}
 use Rattle.pool_rule.specs.Notes.{Count}
 use Rattle.pool_rule.specs.Trades.{Trades, SameHolds}
 use Rattle.pool_rule.specs.Views.{View, sharing, count_of}
-use Rattle.pool_rule.proofs.Gains.{gaining-none, gained-same, gained-then, saw-within}
+use Rattle.pool_rule.proofs.Gains.{gained-same, gained-then, saw-within}
 use Rattle.pool_rule.proofs.Trades.{trade, Trades-same}
 use Rattle.node_pool.specs.declared.refusals.NodeError.{NodeError}
 use Rattle.node_pool.specs.declared.refusals.NodeError.TheVariants.{NoNumber, HeightLimit, Memory}
@@ -162,7 +161,7 @@ balanced-limit_err (Ok x) limit found v w is reached view = absurd is
 balanced-limit_err (Err x) limit found v w is reached view = subst (λ (z : CordError). IsBalanced limit z v w) (sym is) (balanced-limit limit found v w reached view)
 
 -- a pass was made and ended, and the steps between found numbers in use alone
-AreGiven : (limit : ℕ) (x : NodeError) (counts : List Count) → AreBelow limit counts → AreCountsOf limit (refusal_of x) counts
+pub AreGiven : (limit : ℕ) (x : NodeError) (counts : List Count) → AreBelow limit counts → AreCountsOf limit (refusal_of x) counts
 AreGiven limit (NoNumber seen) counts below = below
 AreGiven limit (HeightLimit height) counts below = below
 AreGiven limit Memory counts below = below

@@ -3,3 +3,4 @@ pub mod Forms
 pub mod Refusals
 pub mod Views
 pub mod Workers
+pub mod Grown

@@ -115,7 +115,9 @@ impl<P: Naming> Cord<P> {
 
     /// How many bytes there are.
     pub fn len(&self) -> u64
-        ensures { result ≡ length self.now.bytes }
+        ensures len { result ≡ length self.now.bytes }
+        ensures short { length self.now.bytes ≤ 2147483647 }
+        ensures formed { IsTreeOf self.now.bytes self.now.tree }
     {
         texts_are_as_long_as_edges_say();
         match &self.form {

@@ -3,6 +3,7 @@
 
 mod copies;
 mod cord;
+mod growing;
 mod inline;
 mod reading;
 mod refusals;

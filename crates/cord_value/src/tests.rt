@@ -20,33 +20,66 @@ fn number_of<P: Naming>(cord: &Cord<P>) -> Option<u32> {
     }
 }
 
-/// A cord's length, and whether it is a tree. It is released then.
+/// A byte of a cord.
+fn byte_at<P: Naming>(cord: &Cord<P>, at: u64) -> Option<u8>
+    requires within { at ≤ length cord.now.bytes }
+{
+    let mut reading = cord.chunks();
+    reading.seek(at);
+    reading.read(1).first().copied()
+}
+
+/// What a cord is seen to be: its length, whether it is a tree, and the bytes at both ends.
+type Seen = (u64, bool, Option<u8>, Option<u8>);
+
+fn seen_in<P: Naming>(cord: &Cord<P>) -> Seen {
+    let size = cord.len();
+    let last = match size.checked_sub(1) {
+        Some(last) => byte_at(cord, last),
+        None => None,
+    };
+    (size, cord.is_tree(), byte_at(cord, 0), last)
+}
+
+/// A cord of so many `m`, which gets so many `f` in front and so many `b` behind. It is released then.
 fn made_and_gone<P: Naming>(
     alloc: Global,
     pool: &Pool<P, Boxes>,
     w: &mut Worker<P>,
-    size: usize,
-) -> Result<(u64, bool), CordError>
+    sizes: (usize, usize, usize),
+) -> Result<Seen, CordError>
     requires room { length w.old.holds ≤ 96 }
     ensures same { SameHolds w.old.holds w.new.holds }
 {
-    let Ok(bytes) = vec![in alloc; 120u8; size] else {
+    let (in_front, size, behind) = sizes;
+    let (Ok(front), Ok(bytes), Ok(back)) = (
+        vec![in alloc; b'f'; in_front],
+        vec![in alloc; b'm'; size],
+        vec![in alloc; b'b'; behind],
+    ) else {
         return Err(CordError::Memory);
     };
-    let cord = match Cord::from_bytes(alloc, pool, w, bytes.as_slice()) {
+    let mut cord = match Cord::from_bytes(alloc, pool, w, bytes.as_slice()) {
         Ok(cord) => cord,
         Err(error) => return Err(error),
     };
-    let seen = (cord.len(), cord.is_tree());
+    let grown = match cord.prepend_bytes(alloc, pool, w, front.as_slice()) {
+        Ok(()) => cord.append_bytes(alloc, pool, w, back.as_slice()),
+        Err(error) => Err(error),
+    };
+    let seen = match grown {
+        Ok(()) => Ok(seen_in(&cord)),
+        Err(error) => Err(error),
+    };
     cord.release(pool, w);
-    Ok(seen)
+    seen
 }
 
 fn seen_of<P: Naming>(
     alloc: Global,
     opened: Opened<Boxes>,
-    size: usize,
-) -> Option<(Result<(u64, bool), CordError>, u32)>
+    sizes: (usize, usize, usize),
+) -> Option<(Result<Seen, CordError>, u32)>
     requires table { opened_table opened ≡ P.table }
     requires numbers { opened_numbers opened ≡ P.size }
     requires passes { opened_passes opened ≡ P.limit }
@@ -56,7 +89,7 @@ fn seen_of<P: Naming>(
     let Ok((pool, mut workers)) = opened.named::<P>(alloc) else {
         return None;
     };
-    let seen = made_and_gone(alloc, &pool, &mut workers[0], size);
+    let seen = made_and_gone(alloc, &pool, &mut workers[0], sizes);
     let Closed {
         in_use,
         releasers: _,
@@ -67,22 +100,56 @@ fn seen_of<P: Naming>(
 #[test]
 fn cords_take_a_number_for_each_node_and_one_too_few_is_told(rt: HostRuntime) {
     let alloc = rt.alloc();
-    for (numbers, size, seen) in [
-        (1u32, 0usize, Ok((0u64, false))),
-        (1, 15, Ok((15, false))),
-        (1, 16, Ok((16, true))),
-        (1, 4083, Ok((4083, true))),
-        (3, 4084, Ok((4084, true))),
-        (2, 4084, Err(CordError::NoNumber { seen: 2 })),
-        (10, 28_581, Ok((28_581, true))),
-        (9, 28_581, Err(CordError::NoNumber { seen: 9 })),
+    for (numbers, sizes, seen) in [
+        (
+            1u32,
+            (0usize, 0usize, 0usize),
+            Ok((0u64, false, None, None)),
+        ),
+        (1, (0, 15, 0), Ok((15, false, Some(b'm'), Some(b'm')))),
+        (1, (0, 16, 0), Ok((16, true, Some(b'm'), Some(b'm')))),
+        (1, (0, 4083, 0), Ok((4083, true, Some(b'm'), Some(b'm')))),
+        (3, (0, 4084, 0), Ok((4084, true, Some(b'm'), Some(b'm')))),
+        (2, (0, 4084, 0), Err(CordError::NoNumber { seen: 2 })),
+        (
+            10,
+            (0, 28_581, 0),
+            Ok((28_581, true, Some(b'm'), Some(b'm'))),
+        ),
+        (9, (0, 28_581, 0), Err(CordError::NoNumber { seen: 9 })),
     ] {
         let Ok(opened) = Opened::start(alloc, numbers, 1, 1, Vec::new(alloc)) else {
             assert!(&rt; false, "memory");
             return;
         };
-        let answer = seen_of::<Brand>(alloc, opened, size);
-        assert_eq!(rt; answer, Some((seen, 0)), "at {size}");
+        let answer = seen_of::<Brand>(alloc, opened, sizes);
+        assert_eq!(rt; answer, Some((seen, 0)), "at {sizes:?}");
+    }
+}
+
+#[test]
+fn bytes_added_stand_at_their_side_and_a_refusal_keeps_the_cord(rt: HostRuntime) {
+    let alloc = rt.alloc();
+    for (numbers, sizes, seen) in [
+        (
+            1u32,
+            (0usize, 0usize, 3usize),
+            Ok((3u64, false, Some(b'b'), Some(b'b'))),
+        ),
+        (1, (1, 13, 1), Ok((15, false, Some(b'f'), Some(b'b')))),
+        (1, (1, 15, 0), Ok((16, true, Some(b'f'), Some(b'm')))),
+        (1, (0, 15, 1), Ok((16, true, Some(b'm'), Some(b'b')))),
+        (3, (1, 16, 0), Ok((17, true, Some(b'f'), Some(b'm')))),
+        (2, (1, 16, 0), Err(CordError::NoNumber { seen: 2 })),
+        (3, (0, 16, 1), Ok((17, true, Some(b'm'), Some(b'b')))),
+        (2, (0, 16, 1), Err(CordError::NoNumber { seen: 2 })),
+    ] {
+        let Ok(opened) = Opened::start(alloc, numbers, 1, 1, Vec::new(alloc)) else {
+            assert!(&rt; false, "memory");
+            return;
+        };
+        let answer = seen_of::<Brand>(alloc, opened, sizes);
+        assert_eq!(rt; answer, Some((seen, 0)), "at {sizes:?}");
     }
 }
 

@@ -1,10 +1,8 @@
 -- One flat is the tree of a short text.
 use Rattle.std.proofs.Common.{◌≡◌, ◌∙◌, [], ◌∷◌, length}
-use Rattle.node_forest.specs.Label.{Node}
 use Rattle.tree_shapes.specs.Flats.{flat_shape, new_shape}
 use Rattle.node_edges.specs.Trees.{shape_of}
 use Rattle.pool_rule.specs.Trades.{Trades, SameHolds}
-use Rattle.node_pool.specs.declared.refusals.NodeError.{NodeError}
 use Rattle.node_pool.specs.Refusals.{IsCause, IsNoted, IsOfNoHeight}
 use Rattle.flat_nodes.specs.Flats.{new_flat_node, IsAdded}
 use Rattle.btree_node.specs.Made.{IsMadeFrom, IsRefusedFrom}

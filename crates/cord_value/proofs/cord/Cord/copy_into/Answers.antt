@@ -1,6 +1,5 @@
 -- What a copy into a pass leaves a worker with.
-use Rattle.std.proofs.Common.{[], ◌∙◌, sym, subst}
-use Rattle.pool_rule.specs.Trades.{SameHolds}
+use Rattle.std.proofs.Common.{[], sym, subst}
 use Rattle.pool_rule.specs.Views.{View}
 use Rattle.cord_value.specs.Workers.{Keeps}
 use Rattle.cord_value.proofs.Balances.{if-ok, keeps-same, keeps-shared}
