@@ -405,7 +405,7 @@ fn buffered_text_is_whole_or_a_beginning(rt: HostRuntime) -> Result<(), Fail> {
             let sink = MemorySink::new(rt.alloc(), 64, most, fails)?;
             let (status, sink) = served(&rt, rt.alloc(), "run", HELLO, sink)?;
             assert_eq!(rt; status, if failing < calls { 4 } else { 0 });
-            let count = (failing * most).min(HELLO_TEXT.len());
+            let count = failing.saturating_mul(most).min(HELLO_TEXT.len());
             assert_eq!(rt; sink.bytes(), &HELLO_TEXT.as_bytes()[..count]);
         }
     }
@@ -468,6 +468,7 @@ fn text_comes_in_lines_and_through_the_buffer_in_large_pieces(rt: HostRuntime) -
         Vec::new(rt.alloc()),
     );
     let lines = vec![in rt.alloc(); 4099usize; 44]?;
+    assert!(rt; text.len() > 131_072);
     assert_eq!(rt; sink.pieces.len(), 44);
     assert_eq!(rt; &sink.pieces[2..42], &lines[2..42]);
     assert_eq!(rt; sink.pieces[43], b"pool 0 of 65536\n".len());
