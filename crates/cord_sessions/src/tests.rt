@@ -496,6 +496,7 @@ fn text_comes_in_lines_and_through_the_buffer_in_large_pieces(rt: HostRuntime) -
         let sink = MemorySink::new(rt.alloc(), 262144, 65536, vec![in rt.alloc(); failing]?)?;
         let (status, sink) = served(&rt, rt.alloc(), "run", script.as_str(), sink)?;
         assert_eq!(rt; status, if failing < 4 { 4 } else { 0 });
+        let count = count.min(text.len());
         assert_eq!(rt; sink.bytes(), &text.as_str().as_bytes()[..count]);
     }
     Ok(())
