@@ -1,5 +1,5 @@
 -- What a change of a cord leaves, and why a cord isn't made or changed.
-use Rattle.std.specs.Prelude.{ℕ, ◌≡◌, ◌-◌, ◌<◌, ◌≤◌, ¬, List, length, Option, None, IsSome}
+use Rattle.std.specs.Prelude.{ℕ, ◌≡◌, ◌-◌, ◌<◌, ◌≤◌, List, length, Option, None, IsSome}
 use Rattle.node_forest.specs.Label.{Node}
 use Rattle.tree_shapes.specs.Cords.{CordShape, NeedsHeight12}
 use Rattle.pool_rule.specs.Gains.{SawAll}

@@ -1,5 +1,5 @@
 -- What a cord of bytes from outside is, and why it isn't made.
-use Rattle.std.specs.Prelude.{ℕ, ◌≡◌, ◌≢◌, List, [], ◌∷◌, length, None}
+use Rattle.std.specs.Prelude.{ℕ, ◌≡◌, ◌≢◌, [], ◌∷◌, length, None}
 use Rattle.tree_shapes.specs.Cords.{cord_of_external}
 use Rattle.pool_rule.specs.Gains.{Gain, Gained}
 use Rattle.edge_nodes.specs.Externals.{first_slot}

@@ -1,5 +1,5 @@
 //! Ranges of a cord, and bytes cut off.
-ghost use Rattle.std.specs.Prelude.{◌≡◌, ◌-◌, ◌<◌, ◌≤◌, min, length, take, drop, IfOk, IfErr, OnErr};
+ghost use Rattle.std.specs.Prelude.{◌≡◌, ◌-◌, ◌<◌, ◌≤◌, false, length, take, drop, IfOk, IfErr, OnErr};
 ghost use Rattle.tree_shapes.specs.Cords.{IsBackCut, back_cut, front_cut, sub_cord};
 ghost use Rattle.cord_value.specs.Changes.{IsChange, IsCutRefused, IsRefused};
 ghost use Rattle.cord_value.specs.Refusals.{IsBalanced};
@@ -23,7 +23,7 @@ impl<P: Naming> Cord<P> {
         n: u64,
     ) -> Result<Cord<P>, CordError>
         requires room { length w.old.holds ≤ 96 }
-        ensures bytes { IfOk result (λ c. c.bytes ≡ take (min n (length self.old.bytes - min pos (length self.old.bytes))) (drop (min pos (length self.old.bytes)) self.old.bytes)) }
+        ensures bytes { IfOk result (λ c. c.bytes ≡ take n (drop pos self.old.bytes)) }
         ensures shape { IfOk result (λ c. cord_shape c ≡ sub_cord pos n (cord_shape self.old)) }
         ensures made { IfOk result (λ c. IsChange P.limit 32 no_cord c w.old w.new) }
         ensures refused { IfErr result (λ x. IsRefused P.size P.limit no_cord.tree (sub_cord pos n (cord_shape self.old)) x w.old w.new) }

@@ -6,9 +6,10 @@ ghost use Rattle.cord_value.specs.Externals.{IsExternalMade, IsExternalRefused};
 ghost use Rattle.cord_value.specs.Refusals.{IsBalanced};
 ghost use Rattle.cord_value.specs.Views.{cord_shape, root_number, IsTreeOf};
 
-use crate::cord::Cord;
+use crate::cord::{Cord, Form, MOST_BYTES};
 use crate::refusals::CordError;
 use cord_port::Releaser;
+use edge_nodes::new_external;
 use node_pool::{Naming, Pool, Worker};
 use std::alloc::Global;
 
@@ -32,9 +33,25 @@ impl<P: Naming> Cord<P> {
         ensures balanced { IfErr result (λ x. IsBalanced P.limit x w.old w.new) }
     {
         let used = w.used_slots();
-        if w.next_slot().is_none() {
+        let Some(_) = w.next_slot() else {
             return Err(CordError::NoReleaser { used });
+        };
+        if bytes.len() > MOST_BYTES {
+            let asked = bytes.len() as u64;
+            return Err(CordError::LengthLimit { asked });
         }
-        Err(CordError::Memory)
+        let mut pass = pool.pass(w)?;
+        match new_external(alloc, pool, w, bytes) {
+            Ok(root) => {
+                pool.fill(w, &mut pass, &root);
+                Ok(Cord {
+                    form: Form::Tree { pass, root },
+                })
+            }
+            Err(error) => {
+                pool.end(w, pass);
+                Err(error.into())
+            }
+        }
     }
 }

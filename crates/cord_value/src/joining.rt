@@ -1,5 +1,5 @@
 //! Cords added to a cord.
-ghost use Rattle.std.specs.Prelude.{◌≡◌, ◌++◌, ◌<◌, ◌≤◌, length, IfOk, IfErr, OnErr};
+ghost use Rattle.std.specs.Prelude.{◌≡◌, ◌++◌, ◌<◌, ◌≤◌, false, length, IfOk, IfErr, OnErr};
 ghost use Rattle.node_forest.specs.declared.side.Side.{Side as Side_value};
 ghost use Rattle.node_forest.specs.declared.side.Side.TheVariants as sides;
 ghost use Rattle.tree_shapes.specs.Cords.{IsCordAdded, IsDoubled, with_cord_added, doubled};
@@ -8,7 +8,7 @@ ghost use Rattle.cord_value.specs.Changes.{IsChange, IsRefused};
 ghost use Rattle.cord_value.specs.Refusals.{IsBalanced};
 ghost use Rattle.cord_value.specs.Views.{cord_shape};
 
-use crate::cord::Cord;
+use crate::cord::{Cord, MOST_BYTES};
 use crate::refusals::CordError;
 use cord_port::Releaser;
 use node_pool::{Naming, Pool, Side, Worker};
@@ -102,8 +102,14 @@ impl<P: Naming> Cord<P> {
         ensures same { OnErr result (self.new ≡ self.old) }
         ensures source { other.new ≡ other.old }
     {
-        if other.len() == 0 {
+        let size = self.len();
+        let more = other.len();
+        if more == 0 {
             return Ok(());
+        }
+        let asked = size + more;
+        if asked > MOST_BYTES as u64 {
+            return Err(CordError::LengthLimit { asked });
         }
         Err(CordError::Memory)
     }
