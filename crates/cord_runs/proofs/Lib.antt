@@ -1,0 +1,4 @@
+-- The lemmas of this crate.
+pub mod MergeLaws
+pub mod OrderLaws
+pub mod KeptLaws

@@ -1,0 +1,7 @@
+//! Runs of several sessions over trees: in which order their requests are done, which books and histories they may have, and how
+//! sessions that know nothing of each other make one run. Definitions, and laws of them; nothing here runs.
+#![tactic(auto)]
+
+mod laws;
+
+pub use laws::{refusals_in_runs_show_their_cause, runs_are_plain_runs, sessions_alone_make_runs};
