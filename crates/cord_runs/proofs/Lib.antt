@@ -2,3 +2,4 @@
 pub mod MergeLaws
 pub mod OrderLaws
 pub mod KeptLaws
+pub mod SampleRuns

@@ -1,5 +1,5 @@
--- What holds of each line of a run's order holds of each line of its sessions.
-use Rattle.std.proofs.Common.{◌≡◌, sym, ap, subst, refl, ℕ, zero, suc, ◌+◌, ◌<◌, ◌≤◌, List, [], ◌∷◌, ◌++◌, cond, Bool, true, false, length, arith, eq-eqb, ne_eqb}
+-- The order of a run has the lines of each session, so that what holds of each line of the order holds of each answer.
+use Rattle.std.proofs.Common.{◌≡◌, ◌≢◌, ◌∙◌, sym, ap, subst, refl, ℕ, zero, suc, ◌+◌, ◌<◌, ◌≤◌, List, [], ◌∷◌, ◌++◌, eqb, cond, Bool, true, false, length, arith, eq-eqb, ne_eqb, append-nil}
 use Rattle.std.specs.List.{AllByRecursion}
 use Rattle.std.specs.Prelude.{slice_index_or, zip, map, Contains}
 use mathlib.Core.Logic.{dite}
@@ -12,50 +12,71 @@ use Rattle.cord_steps.specs.Causes.{ShowsCause}
 use Rattle.cord_steps.specs.Runs.{Line, new_session, Plays}
 use Rattle.cord_steps.specs.Sessions.{Options, Session, Cells, Effect}
 use Rattle.cord_steps.specs.Steps.{IsStep}
-use Rattle.cord_runs.specs.Orders.{tagged, rest_of, upto, beyond, run_order}
+use Rattle.cord_runs.specs.Orders.{tagged, rest_of, lines_of, upto, beyond, run_order}
 use Rattle.cord_runs.specs.Runs.{acts, lines_at, IsRun}
 
-module _ {L : Type 0} (P : L → Type 0) where
-  abbrev Tagged : ℕ × L → Type 0
-  Tagged x = P x.1
+module _ {L : Type 0} where
+  of-own : (p : ℕ) (xs : List L) (ys : List (ℕ × L)) → lines_of p (tagged p xs ++ ys) ≡ xs ++ lines_of p ys
+  of-own p [] ys = refl
+  of-own p (x ∷ xs) ys = ap (λ b. cond b (x ∷ lines_of p (tagged p xs ++ ys)) (lines_of p (tagged p xs ++ ys))) (eq-eqb p p refl) ∙ ap (λ (z : List L). x ∷ z) (of-own p xs ys)
 
-  of-part : (p : ℕ) (xs : List L) (ys : List (ℕ × L)) → AllByRecursion Tagged (tagged p xs ++ ys) → AllByRecursion P xs × AllByRecursion Tagged ys
-  of-part p [] ys all = (tt, all)
-  of-part p (x ∷ xs) ys all = let more = of-part p xs ys all.1 in ((all.0, more.0), more.1)
+  of-other : (p q : ℕ) (xs : List L) (ys : List (ℕ × L)) → p ≢ q → lines_of p (tagged q xs ++ ys) ≡ lines_of p ys
+  of-other p q [] ys other = refl
+  of-other p q (x ∷ xs) ys other = ap (λ b. cond b (x ∷ lines_of p (tagged q xs ++ ys)) (lines_of p (tagged q xs ++ ys))) (ne_eqb p q other) ∙ of-other p q xs ys other
 
-  both : (xs ys : List L) → AllByRecursion P xs → AllByRecursion P ys → AllByRecursion P (xs ++ ys)
-  both [] ys one other = other
-  both (x ∷ xs) ys one other = (one.0, both xs ys one.1 other)
+  -- those of the sessions from k on
+  of-rest_before : (p n k : ℕ) (f : ℕ → List L) → p < k → lines_of p (rest_of n k f) ≡ []
+  of-rest_before p zero k f below = refl
+  of-rest_before p (suc n) k f below = of-other p k (f k) (rest_of n (suc k) f) (λ same. omega arith) ∙ of-rest_before p n (suc k) f (omega arith)
 
-  of-rest : (n k : ℕ) (f : ℕ → List L) → AllByRecursion Tagged (rest_of n k f) → (p : ℕ) → k ≤ p → p < k + n → AllByRecursion P (f p)
-  of-rest zero k f all p above below = absurd (omega arith)
-  of-rest (suc n) k f all p above below =
-      let parts = of-part k (f k) (rest_of n (suc k) f) all in
-      dite (ℕ_discrete p k)
-      (λ here. subst (λ (q : ℕ). AllByRecursion P (f q)) (sym here) parts.0)
-      (λ other. of-rest n (suc k) f parts.1 p (omega arith) (omega arith))
+  of-rest_past : (p n k : ℕ) (f : ℕ → List L) → k + n ≤ p → lines_of p (rest_of n k f) ≡ []
+  of-rest_past p zero k f past = refl
+  of-rest_past p (suc n) k f past = of-other p k (f k) (rest_of n (suc k) f) (λ same. omega arith) ∙ of-rest_past p n (suc k) f (omega arith)
 
-  joined : (x : L) (xs : List L) (b : Bool) (front back : List L) → front ++ back ≡ xs → cond b (x ∷ []) (x ∷ front) ++ cond b xs back ≡ x ∷ xs
-  joined x xs true front back parts = refl
-  joined x xs false front back parts = ap (λ (z : List L). x ∷ z) parts
+  of-rest : (p n k : ℕ) (f : ℕ → List L) → k ≤ p → p < k + n → lines_of p (rest_of n k f) ≡ f p
+  of-rest p zero k f above below = absurd (omega arith)
+  of-rest p (suc n) k f above below = dite (ℕ_discrete p k)
+      (λ here. subst (λ (q : ℕ). lines_of p (tagged q (f q) ++ rest_of n (suc k) f) ≡ f p) here
+      (of-own p (f p) (rest_of n (suc k) f) ∙ ap (λ (z : List L). f p ++ z) (of-rest_before p n (suc k) f (omega arith)) ∙ append-nil (f p)))
+      (λ other. of-other p k (f k) (rest_of n (suc k) f) other ∙ of-rest p n (suc k) f (omega arith) (omega arith))
 
   module _ (is_action : L → Bool) where
+    joined : (x : L) (xs : List L) (b : Bool) (front back : List L) → front ++ back ≡ xs → cond b (x ∷ []) (x ∷ front) ++ cond b xs back ≡ x ∷ xs
+    joined x xs true front back parts = refl
+    joined x xs false front back parts = ap (λ (z : List L). x ∷ z) parts
+
     upto-beyond : (xs : List L) → upto is_action xs ++ beyond is_action xs ≡ xs
     upto-beyond [] = refl
     upto-beyond (x ∷ xs) = joined x xs (is_action x) (upto is_action xs) (beyond is_action xs) (upto-beyond xs)
 
-    pub of-order : (es : List Entry) (n : ℕ) (f : ℕ → List L) → AllByRecursion Tagged (run_order is_action n f es) → (p : ℕ) → p < n → AllByRecursion P (f p)
-    of-order [] n f all p below = of-rest n 0 f all p (omega arith) (omega arith)
-    of-order (e ∷ es) n f all p below =
+    -- the order of a run has the lines of each session, in their order; of another session that has no line it has none
+    pub of-order : (es : List Entry) (p n : ℕ) (f : ℕ → List L) → (n ≤ p → f p ≡ []) → lines_of p (run_order is_action n f es) ≡ f p
+    of-order [] p n f none = dite (dec_lt p n) (λ below. of-rest p n 0 f (omega arith) (omega arith)) (λ no. of-rest_past p n 0 f (omega arith) ∙ sym (none (omega arith)))
+    of-order (e ∷ es) p n f none =
         let q : ℕ = e.session in
         let later : ℕ → List L = replaced f q (beyond is_action (f q)) in
-        let parts = of-part q (upto is_action (f q)) (run_order is_action n later es) all in
-        let rest : AllByRecursion P (later p) = of-order es n later parts.1 p below in
         dite (ℕ_discrete p q)
-        (λ here. subst (λ (z : ℕ). AllByRecursion P (f z)) (sym here)
-        (subst (AllByRecursion P) (upto-beyond (f q)) (both (upto is_action (f q)) (beyond is_action (f q)) parts.0
-        (subst (AllByRecursion P) (ap (λ b. cond b (beyond is_action (f q)) (f p)) (eq-eqb p q here)) rest))))
-        (λ other. subst (AllByRecursion P) (ap (λ b. cond b (beyond is_action (f q)) (f p)) (ne_eqb p q other)) rest)
+        (λ here.
+        let rest : later p ≡ beyond is_action (f q) = ap (λ b. cond b (beyond is_action (f q)) (f p)) (eq-eqb p q here) in
+        let still : n ≤ p → later p ≡ [] = λ past. rest ∙ ap (beyond is_action) (ap f (sym here) ∙ none past) in
+        subst (λ (r : ℕ). lines_of p (tagged r (upto is_action (f q)) ++ run_order is_action n later es) ≡ f p) here
+        (of-own p (upto is_action (f q)) (run_order is_action n later es) ∙ (ap (λ (z : List L). upto is_action (f q) ++ z) (of-order es p n later still ∙ rest) ∙ (upto-beyond (f q) ∙ ap f (sym here)))))
+        (λ other.
+        let rest : later p ≡ f p = ap (λ b. cond b (beyond is_action (f q)) (f p)) (ne_eqb p q other) in
+        of-other p q (upto is_action (f q)) (run_order is_action n later es) other ∙ (of-order es p n later (λ past. rest ∙ none past) ∙ rest))
+
+  -- what holds of each line holds of each line of a session
+  module _ (P : L → Type 0) where
+    abbrev pub Tagged : ℕ × L → Type 0
+    Tagged x = P x.1
+
+    pub each-of : (p : ℕ) (xs : List (ℕ × L)) → AllByRecursion Tagged xs → AllByRecursion P (lines_of p xs)
+    each-of p [] all = tt
+    each-of p (x ∷ xs) all = either (eqb p x.0) (lines_of p xs) (each-of p xs all.1)
+      where
+        either : (b : Bool) (ys : List L) → AllByRecursion P ys → AllByRecursion P (cond b (x.1 ∷ ys) ys)
+        either true ys more = (all.0, more)
+        either false ys more = more
 
 -- where there are as many answers as requests, what holds of the lines holds of each answer
 pub of-answer : {X Y : Type 0} (P : Y → Type 0) (xs : List X) (ys : List Y) → length ys ≡ length xs → AllByRecursion (λ x. P x.1) (zip xs ys) → (k : ℕ) (y : Y) → k < length ys → slice_index_or ys k y ≡ y → P y
@@ -76,6 +97,10 @@ index-past [] p d past = refl
 index-past (x ∷ xs) zero d past = absurd (omega arith)
 index-past (x ∷ xs) (suc p) d past = index-past xs p d (omega arith)
 
+pub order-lines : {R : Type 0} (sessions : List (List Request)) (books : List (List (Answer R))) (history : List Entry) (p : ℕ) → lines_of p (run_order acts (length sessions) (lines_at sessions books) history) ≡ lines_at sessions books p
+order-lines sessions books history p =
+    of-order acts history p (length sessions) (lines_at sessions books) (λ past. ap (λ (z : List Request). zip z (slice_index_or books p [])) (index-past sessions p [] past))
+
 -- ---- of a run over trees
 abbrev pub AllShow : Type 0 → Type 0
 AllShow R = (options : Options) (p : ℕ) (s : Session) (cells : Cells) (request : Request) (answer : Answer R) (e : Effect) → IsStep options p s cells request answer e → ShowsCause options answer
@@ -92,17 +117,7 @@ module _ {R : Type 0} (show : AllShow R) (options : Options) where
 
   pub run-shows : (boxes : ℕ → ℕ) (sessions : List (List Request)) (books : List (List (Answer R))) (history : List Entry) (p : ℕ) (answer : Answer R) → IsRun options boxes sessions books history → Contains (slice_index_or books p []) answer → ShowsCause options answer
   run-shows boxes sessions books history p answer run contains =
-      let same = as-many sessions books run.answered p in
-      let here : p < length sessions = inside in
-      of-answer (ShowsCause options) (slice_index_or sessions p []) (slice_index_or books p []) same
-      (of-order Shows acts history (length sessions) (lines_at sessions books) (played-show _ (λ q. new_session (boxes q)) empty_cells history run.plays) p here)
-      contains.0 answer contains.1 contains.2
-    where
-      inside : p < length sessions
-      inside = dite (dec_lt p (length sessions)) (λ yes. yes)
-          (λ no.
-          let none : slice_index_or sessions p [] ≡ [] = index-past sessions p [] (omega arith) in
-          let same : length (slice_index_or books p []) ≡ length (slice_index_or sessions p []) = as-many sessions books run.answered p in
-          let nothing : length (slice_index_or sessions p []) ≡ 0 = ap length none in
-          let some : contains.0 < length (slice_index_or books p []) = contains.1 in
-          absurd (omega arith))
+      let xs = run_order acts (length sessions) (lines_at sessions books) history in
+      let all = each-of Shows p xs (played-show xs (λ q. new_session (boxes q)) empty_cells history run.plays) in
+      of-answer (ShowsCause options) (slice_index_or sessions p []) (slice_index_or books p []) (as-many sessions books run.answered p)
+      (subst (AllByRecursion Shows) (order-lines sessions books history p) all) contains.0 answer contains.1 contains.2

@@ -4,3 +4,4 @@ pub mod Stamps
 pub mod Runs
 pub mod Alone
 pub mod Kept
+pub mod Samples

@@ -1,5 +1,5 @@
 -- The order in which the lines of several sessions are done, as far as the board's history tells it, whatever a line is.
-use Rattle.std.specs.Prelude.{ℕ, suc, zero, List, [], ◌∷◌, ◌++◌, cond, Bool, map}
+use Rattle.std.specs.Prelude.{ℕ, suc, zero, List, [], ◌∷◌, ◌++◌, ◌==◌, cond, Bool, map}
 use Rattle.plain_cord.specs.declared.history.Entry.{Entry}
 use Rattle.plain_cord.specs.RunOrders.{replaced}
 
@@ -10,6 +10,11 @@ tagged p xs = map (λ x. (p, x)) xs
 abbrev pub rest_of : {L : Type 0} → ℕ → ℕ → (ℕ → List L) → List (ℕ × L)
 rest_of zero k f = []
 rest_of (suc n) k f = tagged k (f k) ++ rest_of n (suc k) f
+
+-- the lines of the session p among those of several
+abbrev pub lines_of : {L : Type 0} → ℕ → List (ℕ × L) → List L
+lines_of p [] = []
+lines_of p (x ∷ xs) = cond (p == x.0) (x.1 ∷ lines_of p xs) (lines_of p xs)
 
 -- `acts` tells which lines are board actions
 module _ {L : Type 0} (acts : L → Bool) where

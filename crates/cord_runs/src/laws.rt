@@ -11,7 +11,8 @@ ghost use Rattle.cord_steps.specs.Runs.{new_session};
 ghost use Rattle.cord_steps.specs.Sessions.{Options, Session};
 ghost use Rattle.cord_runs.specs.Alone.{size_of, RunsAlone};
 ghost use Rattle.cord_runs.specs.Kept.{kept_sessions, kept_books};
-ghost use Rattle.cord_runs.specs.Runs.{lines_at, IsRun};
+ghost use Rattle.cord_runs.specs.Orders.{lines_of, run_order};
+ghost use Rattle.cord_runs.specs.Runs.{acts, lines_at, IsRun};
 ghost use Rattle.cord_runs.specs.Stamps.{stamps_in, AreDifferent};
 
 use cord_steps::{resource_refusals_show_their_cause, runs_without_refusals_are_plain_runs};
@@ -23,6 +24,12 @@ pub fn sessions_alone_make_runs<R>()
         → map length books ≡ map length sessions → AreDifferent (stamps_in books) → IsLegal empty_cells log
         → ((p : ℕ) → (after : Session) × RunsAlone options p (new_session (boxes p)) (lines_at sessions books p) (of_session p log) after)
         → IsRun options boxes sessions books (map (entry_of size_of) log) }
+{}
+
+/// The order of a run has the lines of each session, once each and in their order, whatever the history.
+pub fn run_orders_have_each_line<R>()
+    ensures { (sessions : List (List Request)) (books : List (List (Answer R))) (history : List Entry_value) (p : ℕ)
+        → lines_of p (run_order acts (length sessions) (lines_at sessions books) history) ≡ lines_at sessions books p }
 {}
 
 /// A run over trees is a run on byte strings with the same history: without the lines that were refused for want of a height, a

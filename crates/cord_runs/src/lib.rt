@@ -3,5 +3,10 @@
 #![tactic(auto)]
 
 mod laws;
+mod samples;
 
-pub use laws::{refusals_in_runs_show_their_cause, runs_are_plain_runs, sessions_alone_make_runs};
+pub use laws::{
+    refusals_in_runs_show_their_cause, run_orders_have_each_line, runs_are_plain_runs,
+    sessions_alone_make_runs,
+};
+pub use samples::{refused_peeks_are_no_actions, takes_find_what_was_put_before};
