@@ -1,5 +1,6 @@
 -- The lemmas of this crate.
-pub mod MergeLaws
 pub mod OrderLaws
+pub mod MarkLaws
+pub mod MergeLaws
 pub mod KeptLaws
 pub mod SampleRuns

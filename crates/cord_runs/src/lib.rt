@@ -7,6 +7,6 @@ mod samples;
 
 pub use laws::{
     refusals_in_runs_show_their_cause, run_orders_have_each_line, runs_are_plain_runs,
-    sessions_alone_make_runs,
+    runs_without_a_stride_have_no_marks, sessions_alone_make_runs,
 };
 pub use samples::{refused_peeks_are_no_actions, takes_find_what_was_put_before};
