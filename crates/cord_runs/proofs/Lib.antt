@@ -4,3 +4,4 @@ pub mod MarkLaws
 pub mod MergeLaws
 pub mod KeptLaws
 pub mod SampleRuns
+pub mod AloneLaws
