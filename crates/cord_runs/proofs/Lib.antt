@@ -4,4 +4,5 @@ pub mod MarkLaws
 pub mod MergeLaws
 pub mod KeptLaws
 pub mod SampleRuns
+pub mod AnswerLaws
 pub mod AloneLaws

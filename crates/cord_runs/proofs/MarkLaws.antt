@@ -17,7 +17,7 @@ use Rattle.cord_steps.specs.Steps.{IsStep}
 use Rattle.cord_runs.specs.Orders.{run_order}
 use Rattle.cord_runs.specs.Runs.{acts, lines_at}
 use Rattle.cord_runs.specs.Stamps.{stamps_of_mark, stamps_of, stamps_in, AreDifferent}
-use Rattle.cord_runs.proofs.OrderLaws.{Tagged, of-book, of-contained}
+use Rattle.cord_runs.proofs.OrderLaws.{Tagged, each-of, order-lines, as-many, of-answers, of-contained}
 
 -- ---- an answer without a mark tells no stamp
 mark-none : {R : Type 0} (answer : Answer R) → HasNoMark answer → stamps_of answer ≡ []
@@ -63,11 +63,16 @@ module _ {R : Type 0} (unmarked_steps : StepsUnmarked R) (unsampled_steps : Step
       let after = unsampled_steps options x.0 (states x.0) cells x.1.0 x.1.1 e none plays.1 (all x.0) in
       (unmarked_steps options x.0 (states x.0) cells x.1.0 x.1.1 e none plays.1 (all x.0), played-unmarked xs (replaced states x.0 e.state) e.cells go.0 (replaced-none states cells x.0 e all after) go.2)
 
+  pub lines-unmarked : (boxes : ℕ → ℕ) (sessions : List (List Request)) (books : List (List (Answer R))) (history : List Entry) → Plays options (λ p. new_session (boxes p)) empty_cells (run_order acts (length sessions) (lines_at sessions books) history) history → (p : ℕ)
+      → AllByRecursion Unmarked (lines_at sessions books p)
+  lines-unmarked boxes sessions books history plays p =
+      let xs = run_order acts (length sessions) (lines_at sessions books) history in
+      subst (AllByRecursion Unmarked) (order-lines sessions books history p) (each-of Unmarked p xs (played-unmarked xs (λ q. new_session (boxes q)) empty_cells history (λ q. record { named = λ a. refl; held = empty-held 64 }) plays))
+
   module _ (boxes : ℕ → ℕ) (sessions : List (List Request)) (books : List (List (Answer R))) (history : List Entry) (answered : map length books ≡ map length sessions)
       (plays : Plays options (λ p. new_session (boxes p)) empty_cells (run_order acts (length sessions) (lines_at sessions books) history) history) where
     books-unmarked : (p : ℕ) → AllByRecursion HasNoMark (slice_index_or books p [])
-    books-unmarked = of-book HasNoMark sessions books history answered
-        (played-unmarked (run_order acts (length sessions) (lines_at sessions books) history) (λ p. new_session (boxes p)) empty_cells history (λ q. record { named = λ a. refl; held = empty-held 64 }) plays)
+    books-unmarked p = of-answers HasNoMark (slice_index_or sessions p []) (slice_index_or books p []) (as-many sessions books answered p) (lines-unmarked boxes sessions books history plays p)
 
     pub no-stamps : AreDifferent (stamps_in books)
     no-stamps = subst AreDifferent (sym (books-none books books-unmarked)) tt

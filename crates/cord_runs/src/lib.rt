@@ -10,8 +10,9 @@ pub use alone::{
     actions_stand_alone, requests_apart_from_the_board_stand_alone, sessions_go_on_alone,
 };
 pub use laws::{
-    refusals_in_runs_show_their_cause, run_orders_have_each_line, runs_are_plain_runs,
-    runs_without_a_stride_have_no_marks, sessions_alone_make_runs,
+    answers_follow_from_history_and_refusals, refusals_in_runs_show_their_cause,
+    run_orders_have_each_line, runs_are_plain_runs, runs_without_a_stride_have_no_marks,
+    sessions_alone_make_runs,
 };
 pub use samples::{
     kept_lines_are_those_on_byte_strings, refused_peeks_are_no_actions,
