@@ -15,7 +15,7 @@ abbrev pub acts : {Report : Type 0} → Line Report → Bool
 acts (Plain command, Told reply) = bytes.acts command reply
 acts _ = false
 
--- it asks for nothing on the board
+-- the request asks for nothing on the board
 abbrev pub IsApart : Request → Type 0
 IsApart (Plain command) = asked_action command ≡ None
 IsApart _ = Unit {0}
