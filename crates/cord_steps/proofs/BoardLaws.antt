@@ -60,7 +60,7 @@ acts-alike p s cells act cell came was names others reply same = λ i. record {
   reply = reply;
 }
 
-named-alike : (names : Names) (a : List ℕ) (c : Cord) → SameNames (with_name (plain_names names) a (plain_of c)) (plain_names (naming names a (Some c)))
+pub named-alike : (names : Names) (a : List ℕ) (c : Cord) → SameNames (with_name (plain_names names) a (plain_of c)) (plain_names (naming names a (Some c)))
 named-alike names a c = λ name. go (bytes_eq a name) (names name)
   where
     go : (b : Bool) (o : Option Cord) → cond b (Some (plain_of c)) (plain o) ≡ plain (cond b (Some c) o)

@@ -1,5 +1,5 @@
 -- The bytes and sums after a step are those of the step on byte strings.
-use Rattle.std.proofs.Common.{◌≡◌, ◌∙◌, sym, ap, subst, refl, ℕ, [], Option, Some, None, Bool, true, false, cond}
+use Rattle.std.proofs.Common.{◌≡◌, ◌∙◌, sym, ap, subst, refl, ℕ, ◌+◌, List, [], Option, Some, None, Bool, true, false, cond}
 use Rattle.std.specs.Prelude.{option_map}
 use Rattle.std.specs.Str.{bytes_eq}
 use Rattle.std.proofs.lemmas.Slice.Eq.{bytes_eq-Decides}
@@ -7,18 +7,21 @@ use Rattle.plain_cord.specs.declared.script.Command.{Command}
 use Rattle.plain_cord.specs.declared.reply.NewMark.{NewMark}
 use Rattle.plain_cord.specs.declared.reply.Reply.{Reply}
 use Rattle.plain_cord.specs.declared.reply.Reply.TheVariants as replies
-use Rattle.plain_cord.specs.States.{CordState, SameNames}
+use Rattle.plain_cord.specs.States.{CordState, SameNames, plain}
+use Rattle.plain_cord.specs.declared.script.Text.{Text}
 use Rattle.plain_cord.specs.Outcomes.{Outcome, outcome}
-use Rattle.cord_steps.specs.Answers.{Answer, Told, Plain, unmarked}
+use Rattle.plain_cord.specs.Texts.{text_bytes}
+use Rattle.cord_steps.specs.Answers.{Answer, Told, Plain, External, unmarked}
+use Rattle.cord_steps.specs.Boarding.{left}
 use Rattle.cord_steps.specs.Cords.{Cord, plain_of, plain_names}
-use Rattle.cord_steps.specs.Doings.{Doing, doing}
+use Rattle.cord_steps.specs.Doings.{Doing, doing, external_doing}
 use Rattle.cord_steps.specs.Sessions.{Options, Session, Cells, Effect, plain_session, plain_cells, plain_effect}
-use Rattle.cord_steps.specs.Steps.{IsByteAnswer, IsCommandAnswer, cord_with, after_done, after_reply, after_doing, command_effect, IsStep}
+use Rattle.cord_steps.specs.Steps.{IsDoneReply, IsByteAnswer, IsCommandAnswer, IsExternalAnswer, has_box, cord_with, after_done, after_reply, after_doing, command_effect, IsStep}
 use mathlib.Core.Path.{fun_ext}
 use Rattle.plain_cord.specs.declared.script.Command.TheVariants as commands
 use Rattle.plain_cord.specs.Effects as bytes
 use Rattle.plain_cord.specs.Effects.{SessionState, apart, PlainEffect}
-use Rattle.cord_steps.proofs.BoardLaws.{board-alike}
+use Rattle.cord_steps.proofs.BoardLaws.{named-alike, board-alike}
 use Rattle.cord_steps.proofs.Settled.{UnlessDone, Settles, IsSettled, settled}
 
 -- after an outcome
@@ -81,3 +84,23 @@ follows-bytes R options p s cells command reply e step = go (outcome (plain_name
         subst (λ (x : Effect). PlainEffect p (plain_session s) (plain_cells cells) command (plain_effect x (unmarked reply))) (sym is)
         (outcome-effect p (plain_session s) (plain_cells cells) command o from
         ∙ (λ i. Some (record { state = record { names = fun_ext f.names i; acted = sym acted i }; cells = plain_cells cells; entries = []; reply = sym f.says i })))
+
+-- an external that is made does what a `let` of its bytes does
+pub external-follows : (R : Type 0) (options : Options) (p : ℕ) (s : Session) (cells : Cells) (a : List ℕ) (text : Text) (reply : Reply) (e : Effect) → IsStep {Report = R} options p s cells (External a text) (Told reply) e
+    → PlainEffect p (plain_session s) (plain_cells cells) (commands.Let a text) (plain_effect e (unmarked reply))
+external-follows R options p s cells a text reply e step = boxed (has_box s) step.answered
+  where
+    d : Doing
+    d = external_doing s.names a (text_bytes text)
+
+    made : (r : Reply) → IsDoneReply options s d r → e ≡ left (after_reply (record s { externals = s.externals + 1 }) (Some (plain (text_bytes text))) d r) cells
+        → PlainEffect p (plain_session s) (plain_cells cells) (commands.Let a text) (plain_effect e (unmarked r))
+    made (replies.Done mark lost) is done =
+        let c : Cord = cord_with d mark (plain (text_bytes text)) in
+        subst (λ (x : Effect). PlainEffect p (plain_session s) (plain_cells cells) (commands.Let a text) (plain_effect x (unmarked (replies.Done mark lost)))) (sym done)
+        (λ i. Some (record { state = record { names = fun_ext (named-alike s.names a c) i; acted = s.acted }; cells = plain_cells cells; entries = []; reply = unmarked (replies.Done mark lost) }))
+    made _ is done = absurd is
+
+    boxed : (b : Bool) → IsExternalAnswer {Report = R} b options s d (Told reply) → PlainEffect p (plain_session s) (plain_cells cells) (commands.Let a text) (plain_effect e (unmarked reply))
+    boxed false is = absurd (cc)
+    boxed true is = made reply is.1 step.done

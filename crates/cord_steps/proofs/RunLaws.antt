@@ -5,23 +5,23 @@ use mathlib.Core.Path.{fun_ext}
 use Rattle.plain_cord.specs.declared.script.Command.{Command}
 use Rattle.plain_cord.specs.declared.history.Entry.{Entry}
 use Rattle.plain_cord.specs.declared.reply.Reply.{Reply}
-use Rattle.plain_cord.specs.Effects.{SessionState}
+use Rattle.plain_cord.specs.Effects.{SessionState, PlainEffect}
 use Rattle.plain_cord.specs.RunOrders.{replaced}
 use Rattle.plain_cord.specs.Runs as plain
-use Rattle.cord_steps.specs.Answers.{Request, Plain, Answer, Told, Releasers, HasSnapshot, NoSnapshot, Walked, Ended, Height, Cords, Pool, IsTold, IsResourceRefusal, unmarked}
+use Rattle.cord_steps.specs.Answers.{Request, Plain, External, Snap, Walk, Unsnap, Answer, Told, Releasers, HasSnapshot, NoSnapshot, Walked, Ended, Height, Cords, Pool, IsTold, IsResourceRefusal, unmarked}
 use Rattle.cord_steps.specs.Boarding.{left}
 use Rattle.plain_cord.specs.Deeds.{empty_cells}
 use Rattle.plain_cord.specs.Effects as bytes
-use Rattle.cord_steps.specs.Runs.{Line, Plays, new_session, IsRunInOrder, kept_lines, ArePlain}
+use Rattle.cord_steps.specs.Runs.{Line, Plays, new_session, kept_lines}
 use Rattle.cord_steps.specs.Sessions.{Options, Session, Cells, Effect, plain_session, plain_cells, plain_effect}
-use Rattle.cord_steps.specs.Steps.{IsDoneAnswer, IsByteAnswer, IsCommandAnswer, IsStep}
+use Rattle.cord_steps.specs.Steps.{IsDoneAnswer, IsByteAnswer, IsCommandAnswer, snap_after, unsnap_after, IsStep}
 use Rattle.cord_steps.specs.Boarding.{held_in, IsPeekAnswer, IsBoardAnswer}
 use Rattle.cord_steps.specs.Cords.{Cord, plain_names, stamp_in}
 use Rattle.cord_steps.specs.Doings.{Doing, doing}
 use Rattle.plain_cord.specs.Outcomes.{Outcome, outcome}
 use Rattle.plain_cord.specs.declared.script.Command.TheVariants as commands
 use Rattle.plain_cord.specs.declared.reply.Reply.TheVariants as replies
-use Rattle.cord_steps.proofs.ByteLaws.{follows-bytes}
+use Rattle.cord_steps.proofs.ByteLaws.{follows-bytes, external-follows}
 
 abbrev plain_states : (ℕ → Session) → ℕ → SessionState
 plain_states states = λ p. plain_session (states p)
@@ -33,8 +33,8 @@ same-states states p s = fun_ext (λ q. go (eqb q p) (states q))
     go true t = refl
     go false t = refl
 
-kept-states : (states : ℕ → Session) (p : ℕ) → replaced states p (states p) ≡ states
-kept-states states p = fun_ext (λ q. go q (eqb q p) refl)
+kept-states : {X : Type 0} (states : ℕ → X) (p : ℕ) → replaced states p (states p) ≡ states
+kept-states {X} states p = fun_ext (λ q. go q (eqb q p) refl)
   where
     go : (q : ℕ) (b : Bool) → eqb q p ≡ b → cond b (states p) (states q) ≡ states q
     go q true is = ap states (sym (eqb-true q p is))
@@ -93,48 +93,80 @@ told-or-refused options p s cells command (Ended deleted) e step = absurd (other
 abbrev pub RefusalsRest : Type 0 → Type 0
 RefusalsRest R = (options : Options) (p : ℕ) (s : Session) (cells : Cells) (request : Request) (answer : Answer R) (e : Effect) → IsStep options p s cells request answer e → IsResourceRefusal answer → e ≡ left s cells
 
-module _ {R : Type 0} (options : Options) (rest : RefusalsRest R) where
-  -- the lines behind one that was refused go on from the same sessions and cells
-  refused-on : (states : ℕ → Session) (cells : Cells) (p : ℕ) (e : Effect) (later : List (ℕ × Line R)) (history more : List Entry) → e ≡ left (states p) cells → history ≡ e.entries ++ more → Plays options (replaced states p e.state) e.cells later more → Plays options states cells later history
-  refused-on states cells p e later history more is split plays =
-      let nothing : history ≡ more = split ∙ ap (λ (x : Effect). x.entries ++ more) is in
-      let back : replaced states p e.state ≡ states = ap (λ (x : Effect). replaced states p x.state) is ∙ kept-states states p in
-      subst (Plays options states cells later) (sym nothing)
-      (subst (λ (c : Cells). Plays options states c later more) (ap (λ (x : Effect). x.cells) is)
-      (subst (λ (f : ℕ → Session). Plays options f e.cells later more) back plays))
+-- on byte strings nothing was done
+record IsQuiet (s : Session) (cells : Cells) (e : Effect) : Type 0 where
+  pub state : plain_session e.state ≡ plain_session s
+  pub cells_stay : e.cells ≡ cells
+  pub entries : e.entries ≡ []
 
+quiet-left : (s after : Session) (cells : Cells) (e : Effect) → e ≡ left after cells → plain_session after ≡ plain_session s → IsQuiet s cells e
+quiet-left s after cells e is same = record {
+  state = ap (λ (x : Effect). plain_session x.state) is ∙ same;
+  cells_stay = ap (λ (x : Effect). x.cells) is;
+  entries = ap (λ (x : Effect). x.entries) is;
+}
+
+snap-plain : {R : Type 0} (s : Session) (answer : Answer R) → plain_session (snap_after s answer) ≡ plain_session s
+snap-plain s (Told reply) = refl
+snap-plain s _ = refl
+
+unsnap-plain : {R : Type 0} (s : Session) (answer : Answer R) → plain_session (unsnap_after s answer) ≡ plain_session s
+unsnap-plain s (Ended deleted) = refl
+unsnap-plain s _ = refl
+
+module _ {R : Type 0} (options : Options) (rest : RefusalsRest R) where
   -- the lines on byte strings behind one line
   abbrev Goal : (ℕ → Session) → Cells → List (ℕ × Line R) → List Entry → Type 0
   Goal states cells xs history = plain.Plays (plain_states states) (plain_cells cells) (kept_lines xs) history
 
-  told-on : (states : ℕ → Session) (cells : Cells) (p : ℕ) (command : Command) (reply : Reply) (e : Effect) (xs : List (ℕ × Line R)) (history more : List Entry) → IsStep {Report = R} options p (states p) cells (Plain command) (Told reply) e → history ≡ e.entries ++ more → Goal (replaced states p e.state) e.cells xs more
-      → Goal states cells ((p, (Plain command, Told reply)) ∷ xs) history
-  told-on states cells p command reply e xs history more step split later = (
+  quiet-on : (states : ℕ → Session) (cells : Cells) (p : ℕ) (e : Effect) (xs : List (ℕ × Line R)) (history more : List Entry) → IsQuiet (states p) cells e → history ≡ e.entries ++ more → Goal (replaced states p e.state) e.cells xs more → Goal states cells xs history
+  quiet-on states cells p e xs history more quiet split later =
+      let nothing : history ≡ more = split ∙ ap (λ (es : List Entry). es ++ more) quiet.entries in
+      let back : plain_states (replaced states p e.state) ≡ plain_states states = same-states states p e.state ∙ ap (replaced (plain_states states) p) quiet.state ∙ kept-states (plain_states states) p in
+      subst (plain.Plays (plain_states states) (plain_cells cells) (kept_lines xs)) (sym nothing)
+      (subst (λ (c : Cells). plain.Plays (plain_states states) (plain_cells c) (kept_lines xs) more) quiet.cells_stay
+      (subst (λ (f : ℕ → SessionState). plain.Plays f (plain_cells e.cells) (kept_lines xs) more) back later))
+
+  told-on : (states : ℕ → Session) (cells : Cells) (p : ℕ) (command : Command) (reply : Reply) (e : Effect) (xs : List (ℕ × Line R)) (history more : List Entry) → PlainEffect p (plain_session (states p)) (plain_cells cells) command (plain_effect e (unmarked reply)) → history ≡ e.entries ++ more → Goal (replaced states p e.state) e.cells xs more
+      → plain.Plays (plain_states states) (plain_cells cells) ((p, (command, unmarked reply)) ∷ kept_lines xs) history
+  told-on states cells p command reply e xs history more does split later = (
     plain_effect e (unmarked reply),
-    follows-bytes R options p (states p) cells command reply e step,
+    does,
     refl,
     (more, split, subst (λ (f : ℕ → SessionState). plain.Plays f (plain_cells e.cells) (kept_lines xs) more) (same-states states p e.state) later),
   )
 
+  refused-on : (states : ℕ → Session) (cells : Cells) (p : ℕ) (command : Command) (answer : Answer R) (e : Effect) (xs : List (ℕ × Line R)) (history more : List Entry) → IsStep options p (states p) cells (Plain command) answer e → IsResourceRefusal answer → history ≡ e.entries ++ more → Goal (replaced states p e.state) e.cells xs more → Goal states cells xs history
+  refused-on states cells p command answer e xs history more step is split later =
+      quiet-on states cells p e xs history more (quiet-left (states p) (states p) cells e (rest options p (states p) cells (Plain command) answer e step is) refl) split later
+
   -- how the first line was answered
   by-answer : (states : ℕ → Session) (cells : Cells) (p : ℕ) (command : Command) (answer : Answer R) (e : Effect) (xs : List (ℕ × Line R)) (history more : List Entry) → IsStep options p (states p) cells (Plain command) answer e → IsTold answer ⊎ IsResourceRefusal answer → history ≡ e.entries ++ more
-      → Goal (replaced states p e.state) e.cells xs more → (e ≡ left (states p) cells → Goal states cells xs history) → Goal states cells ((p, (Plain command, answer)) ∷ xs) history
-  by-answer states cells p command (Told reply) e xs history more step how split later rested = told-on states cells p command reply e xs history more step split later
-  by-answer states cells p command Height e xs history more step how split later rested = rested (rest options p (states p) cells (Plain command) Height e step tt)
-  by-answer states cells p command (Cords found) e xs history more step how split later rested = rested (rest options p (states p) cells (Plain command) (Cords found) e step tt)
-  by-answer states cells p command (Pool size) e xs history more step how split later rested = rested (rest options p (states p) cells (Plain command) (Pool size) e step tt)
-  by-answer states cells p command _ e xs history more step (inl is) split later rested = absurd is
-  by-answer states cells p command _ e xs history more step (inr is) split later rested = absurd is
+      → Goal (replaced states p e.state) e.cells xs more → Goal states cells ((p, (Plain command, answer)) ∷ xs) history
+  by-answer states cells p command (Told reply) e xs history more step how split later = told-on states cells p command reply e xs history more (follows-bytes R options p (states p) cells command reply e step) split later
+  by-answer states cells p command Height e xs history more step how split later = refused-on states cells p command Height e xs history more step tt split later
+  by-answer states cells p command (Cords found) e xs history more step how split later = refused-on states cells p command (Cords found) e xs history more step tt split later
+  by-answer states cells p command (Pool size) e xs history more step how split later = refused-on states cells p command (Pool size) e xs history more step tt split later
+  by-answer states cells p command _ e xs history more step (inl is) split later = absurd is
+  by-answer states cells p command _ e xs history more step (inr is) split later = absurd is
 
-  pub run-kept : (xs : List (ℕ × Line R)) (states : ℕ → Session) (cells : Cells) (history : List Entry) → ArePlain xs → Plays options states cells xs history → Goal states cells xs history
-  run-kept [] states cells history all plays = plays
-  run-kept ((p, (Plain command, answer)) ∷ xs) states cells history all plays =
+  quiet-step : (states : ℕ → Session) (cells : Cells) (p : ℕ) (after : Session) (e : Effect) (xs : List (ℕ × Line R)) (history more : List Entry) → e ≡ left after cells → plain_session after ≡ plain_session (states p) → history ≡ e.entries ++ more → Goal (replaced states p e.state) e.cells xs more → Goal states cells xs history
+  quiet-step states cells p after e xs history more is same split later = quiet-on states cells p e xs history more (quiet-left (states p) after cells e is same) split later
+
+  by-request : (states : ℕ → Session) (cells : Cells) (p : ℕ) (request : Request) (answer : Answer R) (e : Effect) (xs : List (ℕ × Line R)) (history more : List Entry) → IsStep options p (states p) cells request answer e → history ≡ e.entries ++ more → Goal (replaced states p e.state) e.cells xs more → Goal states cells ((p, (request, answer)) ∷ xs) history
+  by-request states cells p (Plain command) answer e xs history more step split later = by-answer states cells p command answer e xs history more step (told-or-refused options p (states p) cells command answer e step) split later
+  by-request states cells p (External a text) (Told reply) e xs history more step split later = told-on states cells p (commands.Let a text) reply e xs history more (external-follows R options p (states p) cells a text reply e step) split later
+  by-request states cells p (External a text) _ e xs history more step split later = quiet-step states cells p (states p) e xs history more step.done refl split later
+  by-request states cells p Snap answer e xs history more step split later = quiet-step states cells p (snap_after (states p) answer) e xs history more step.done (snap-plain (states p) answer) split later
+  by-request states cells p Walk answer e xs history more step split later = quiet-step states cells p (states p) e xs history more step.done refl split later
+  by-request states cells p Unsnap answer e xs history more step split later = quiet-step states cells p (unsnap_after (states p) answer) e xs history more step.done (unsnap-plain (states p) answer) split later
+
+  pub run-kept : (xs : List (ℕ × Line R)) (states : ℕ → Session) (cells : Cells) (history : List Entry) → Plays options states cells xs history → Goal states cells xs history
+  run-kept [] states cells history plays = plays
+  run-kept ((p, (request, answer)) ∷ xs) states cells history plays =
       let e = plays.0 in
       let go = plays.2 in
-      by-answer states cells p command answer e xs history go.0 plays.1 (told-or-refused options p (states p) cells command answer e plays.1) go.1
-      (run-kept xs (replaced states p e.state) e.cells go.0 all.1 go.2)
-      (λ is. run-kept xs states cells history all.1 (refused-on states cells p e xs history go.0 is go.1 go.2))
-  run-kept ((p, (_, answer)) ∷ xs) states cells history all plays = absurd all.0
+      by-request states cells p request answer e xs history go.0 plays.1 go.1 (run-kept xs (replaced states p e.state) e.cells go.0 go.2)
 
-  pub run-from_start : (boxes : ℕ → ℕ) (xs : List (ℕ × Line R)) (history : List Entry) → ArePlain xs → IsRunInOrder options boxes xs history → plain.Plays (λ p. bytes.new_session) empty_cells (kept_lines xs) history
-  run-from_start boxes xs history all run = run-kept xs (λ p. new_session (boxes p)) empty_cells history all run.plays
+  pub run-from_start : (boxes : ℕ → ℕ) (xs : List (ℕ × Line R)) (history : List Entry) → Plays options (λ p. new_session (boxes p)) empty_cells xs history → plain.Plays (λ p. bytes.new_session) empty_cells (kept_lines xs) history
+  run-from_start boxes xs history plays = run-kept xs (λ p. new_session (boxes p)) empty_cells history plays

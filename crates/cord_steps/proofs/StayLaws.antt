@@ -11,6 +11,7 @@ use Rattle.plain_cord.specs.declared.reply.Reply.{Reply}
 use Rattle.plain_cord.specs.declared.reply.Reply.TheVariants as replies
 use Rattle.plain_cord.specs.States.{CordState, plain}
 use Rattle.plain_cord.specs.Outcomes.{Outcome, outcome}
+use Rattle.plain_cord.specs.Texts.{text_bytes}
 use Rattle.plain_cord.specs.Deeds.{after_of}
 use Rattle.tree_shapes.specs.Cords.{CordShape, IsTreeFor, IsCordShape, level_in}
 use Rattle.tree_shapes.proofs.CordLaws.{external-whole}
@@ -33,7 +34,7 @@ new-none Fresh was = refl
 new-none (Copied _) was = refl
 new-none (Changed _) was = refl
 
-told-none : (m : Manner) → told_note m None ≡ None
+pub told-none : (m : Manner) → told_note m None ≡ None
 told-none Fresh = refl
 told-none (Copied _) = refl
 told-none (Changed true) = refl
@@ -218,11 +219,11 @@ module _ (p : ℕ) (s : Session) (cells : Cells) (all : AreWhole s cells) where
   external-on options a bytes true (Told reply) large small is = external-reply options a bytes reply large small is.1
   external-on options a bytes b _ large small is = all.named
 
-snap-names : {R : Type 0} (s : Session) (answer : Answer R) → (snap_after s answer).names ≡ s.names
+pub snap-names : {R : Type 0} (s : Session) (answer : Answer R) → (snap_after s answer).names ≡ s.names
 snap-names s (Told reply) = refl
 snap-names s _ = refl
 
-unsnap-names : {R : Type 0} (s : Session) (answer : Answer R) → (unsnap_after s answer).names ≡ s.names
+pub unsnap-names : {R : Type 0} (s : Session) (answer : Answer R) → (unsnap_after s answer).names ≡ s.names
 unsnap-names s (Ended deleted) = refl
 unsnap-names s _ = refl
 
@@ -230,9 +231,9 @@ pub step-whole : {R : Type 0} (options : Options) (p : ℕ) (s : Session) (cells
 step-whole options p s cells (Plain command) answer e step within all =
     subst (λ (x : Effect). AreWhole x.state x.cells) (sym step.done)
     (command-whole p s cells all options step.choice command (outcome (plain_names s.names) command) answer (makes step.choice s.names all.named command within) step.answered)
-step-whole options p s cells (External a bytes) answer e step within all =
+step-whole options p s cells (External a text) answer e step within all =
     subst (λ (x : Effect). AreWhole x.state x.cells) (sym step.done)
-    (record { named = external-on p s cells all options a bytes (has_box s) answer within.0 within.1 step.answered; held = all.held })
+    (record { named = external-on p s cells all options a (text_bytes text) (has_box s) answer within.0 within.1 step.answered; held = all.held })
 step-whole options p s cells Snap answer e step within all =
     subst (λ (x : Effect). AreWhole x.state x.cells) (sym step.done) (record { named = subst AllWhole (sym (snap-names s answer)) all.named; held = all.held })
 step-whole options p s cells Walk answer e step within all = subst (λ (x : Effect). AreWhole x.state x.cells) (sym step.done) all

@@ -1,6 +1,7 @@
 -- What a session is asked, and what it answers.
 use Rattle.std.specs.Prelude.{ℕ, List, None}
 use Rattle.plain_cord.specs.declared.script.Command.{Command}
+use Rattle.plain_cord.specs.declared.script.Text.{Text}
 use Rattle.plain_cord.specs.declared.reply.NewMark.TheVariants as marks
 use Rattle.plain_cord.specs.declared.reply.Reply.{Reply}
 use Rattle.plain_cord.specs.declared.reply.Reply.TheVariants as replies
@@ -8,8 +9,8 @@ use Rattle.plain_cord.specs.declared.reply.Reply.TheVariants as replies
 -- a command on byte strings and cells, or one that needs a releaser or the profiler
 pub data Request : Type 0 where
   Plain : Command → Request
-  -- sets a to an external node of these bytes
-  External : (a bytes : List ℕ) → Request
+  -- sets a to an external node of the bytes of the text
+  External : (a : List ℕ) (text : Text) → Request
   Snap : Request
   Walk : Request
   Unsnap : Request

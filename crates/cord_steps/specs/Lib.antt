@@ -6,6 +6,8 @@ pub mod Doings
 pub mod Marks
 pub mod Boarding
 pub mod Steps
+pub mod Causes
 pub mod Runs
 pub mod Samples
 pub mod Whole
+pub mod Notes

@@ -8,6 +8,7 @@ use Rattle.plain_cord.specs.declared.reply.Reply.{Reply}
 use Rattle.plain_cord.specs.declared.reply.Reply.TheVariants as replies
 use Rattle.plain_cord.specs.States.{CordState, plain}
 use Rattle.plain_cord.specs.Outcomes.{Outcome, outcome}
+use Rattle.plain_cord.specs.Texts.{text_bytes}
 use Rattle.tree_shapes.specs.Cords.{NeedsHeight12}
 use Rattle.cord_steps.specs.Answers.{Request, Plain, External, Snap, Walk, Unsnap}
 use Rattle.cord_steps.specs.Answers.{Answer, Told, Releasers, HasSnapshot, NoSnapshot, Walked, Ended, Height, Cords, Pool}
@@ -65,8 +66,8 @@ IsUnsnapAnswer true answer = (deleted : ℕ) × (answer ≡ Ended deleted)
 abbrev pub IsAnswer : {Report : Type 0} → Bool → Options → Session → Cells → Request → Answer Report → Type 0
 IsAnswer choice options s cells (Plain command) answer =
     IsCommandAnswer choice options s cells command (outcome (plain_names s.names) command) answer
-IsAnswer choice options s cells (External a bytes) answer =
-    IsExternalAnswer (has_box s) options s (external_doing s.names a bytes) answer
+IsAnswer choice options s cells (External a text) answer =
+    IsExternalAnswer (has_box s) options s (external_doing s.names a (text_bytes text)) answer
 IsAnswer choice options s cells Snap answer = IsSnapAnswer s.watches answer
 IsAnswer choice options s cells Walk answer = IsWalkAnswer s.watches answer
 IsAnswer choice options s cells Unsnap answer = IsUnsnapAnswer s.watches answer
@@ -113,7 +114,9 @@ unsnap_after s _ = s
 abbrev pub effect : {Report : Type 0} → Bool → ℕ → Session → Cells → Request → Answer Report → Effect
 effect choice p s cells (Plain command) answer =
     command_effect choice p s cells command (outcome (plain_names s.names) command) answer
-effect choice p s cells (External a bytes) answer = left (external_after s bytes (external_doing s.names a bytes) answer) cells
+effect choice p s cells (External a text) answer =
+    let bytes = text_bytes text in
+    left (external_after s bytes (external_doing s.names a bytes) answer) cells
 effect choice p s cells Snap answer = left (snap_after s answer) cells
 effect choice p s cells Walk answer = left s cells
 effect choice p s cells Unsnap answer = left (unsnap_after s answer) cells

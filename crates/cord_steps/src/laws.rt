@@ -8,7 +8,9 @@ ghost use Rattle.plain_cord.specs.Effects as bytes;
 ghost use Rattle.plain_cord.specs.Effects.{PlainEffect};
 ghost use Rattle.plain_cord.specs.Runs as plain;
 ghost use Rattle.cord_steps.specs.Answers.{Request, Plain, Answer, Told, IsTold, IsResourceRefusal, unmarked};
-ghost use Rattle.cord_steps.specs.Runs.{Line, Plays, IsRunInOrder, ArePlain, kept_lines};
+ghost use Rattle.cord_steps.specs.Causes.{ShowsCause};
+ghost use Rattle.cord_steps.specs.Notes.{HaveNoNotes, HasNoMark};
+ghost use Rattle.cord_steps.specs.Runs.{Line, Plays, new_session, kept_lines};
 ghost use Rattle.cord_steps.specs.Boarding.{left};
 ghost use Rattle.cord_steps.specs.Sessions.{Options, Session, Cells, Effect, plain_session, plain_cells, plain_effect};
 ghost use Rattle.cord_steps.specs.Steps.{IsStep};
@@ -18,6 +20,12 @@ ghost use Rattle.cord_steps.specs.Whole.{AreWhole, IsWithin};
 pub fn resource_refusals_change_nothing<R>()
     ensures { (options : Options) (p : ℕ) (s : Session) (cells : Cells) (request : Request) (answer : Answer R) (e : Effect)
         → IsStep options p s cells request answer e → IsResourceRefusal answer → e ≡ left s cells }
+{}
+
+/// A refusal for want of a pass tells at least as many live passes as the limit, and one for want of a number all that the pool has.
+pub fn resource_refusals_show_their_cause<R>()
+    ensures { (options : Options) (p : ℕ) (s : Session) (cells : Cells) (request : Request) (answer : Answer R) (e : Effect)
+        → IsStep options p s cells request answer e → ShowsCause options answer }
 {}
 
 /// A command that isn't refused for want of a height, a pass or a number does to bytes, sums, cells and the history what it does on
@@ -35,14 +43,14 @@ pub fn commands_are_answered_or_refused<R>()
         → IsStep options p s cells (Plain command) answer e → IsTold answer ⊎ IsResourceRefusal answer }
 {}
 
-/// A run over trees without the lines that were refused for want of a height, a pass or a number, and without marks, is a run on
-/// byte strings with the same history.
+/// A run over trees is a run on byte strings with the same history: without the lines that were refused for want of a height, a
+/// pass, a number or a box, those of the profiler, and marks, and with each external as a `let` of its bytes.
 pub fn runs_without_refusals_are_plain_runs<R>()
     ensures lines { (options : Options) (xs : List (ℕ × Line R)) (states : ℕ → Session) (cells : Cells) (history : List Entry_value)
-        → ArePlain xs → Plays options states cells xs history
+        → Plays options states cells xs history
         → plain.Plays (λ p. plain_session (states p)) (plain_cells cells) (kept_lines xs) history }
     ensures whole { (options : Options) (boxes : ℕ → ℕ) (xs : List (ℕ × Line R)) (history : List Entry_value)
-        → ArePlain xs → IsRunInOrder options boxes xs history
+        → Plays options (λ p. new_session (boxes p)) empty_cells xs history
         → plain.Plays (λ p. bytes.new_session) empty_cells (kept_lines xs) history }
 {
     resource_refusals_change_nothing::<R>();
@@ -53,4 +61,12 @@ pub fn runs_without_refusals_are_plain_runs<R>()
 pub fn steps_keep_cords_whole<R>()
     ensures { (options : Options) (p : ℕ) (s : Session) (cells : Cells) (request : Request) (answer : Answer R) (e : Effect)
         → IsStep options p s cells request answer e → IsWithin request → AreWhole s cells → AreWhole e.state e.cells }
+{}
+
+/// Where the stride is 0 and no cord is sampled, no answer has a mark, and no cord is sampled afterwards.
+pub fn steps_without_a_stride_have_no_marks<R>()
+    ensures answer { (options : Options) (p : ℕ) (s : Session) (cells : Cells) (request : Request) (answer : Answer R) (e : Effect)
+        → options.stride ≡ 0 → IsStep options p s cells request answer e → HaveNoNotes s cells → HasNoMark answer }
+    ensures notes { (options : Options) (p : ℕ) (s : Session) (cells : Cells) (request : Request) (answer : Answer R) (e : Effect)
+        → options.stride ≡ 0 → IsStep options p s cells request answer e → HaveNoNotes s cells → HaveNoNotes e.state e.cells }
 {}

@@ -29,5 +29,5 @@ pub fn refusals_come_to_what_needs_something()
     ensures no_number { ¬ (MayAnswer start (Let x (letters 15)) (Pool 8)) }
     ensures copy { ¬ (MayAnswer (after start (Let x (letters 20)) (noted 1 0 20 None)) (Copy x x) (Pool 8)) }
     ensures copy_pass { MayAnswer (after start (Let x (letters 20)) (noted 1 0 20 None)) (Copy x x) (Cords 3) }
-    ensures releasers { IsAnswer {Report = ℕ} false each_sampled start [] (External x []) Releasers }
+    ensures releasers { IsAnswer {Report = ℕ} false each_sampled start [] (External x (letters 20)) Releasers }
 {}

@@ -1,0 +1,7 @@
+-- The definitions of this crate.
+pub mod Orders
+pub mod Stamps
+pub mod Runs
+pub mod Alone
+pub mod Kept
+pub mod Samples
