@@ -6,3 +6,4 @@ pub mod Growth
 pub mod Roots
 pub mod Shapes
 mod SumLaws
+mod RangeLaws
