@@ -3,7 +3,7 @@ use Rattle.std.proofs.Common.{ℕ, subst}
 use Rattle.std.proofs.lemmas.Result.{IfOk-weaker}
 use Rattle.pool_rule.proofs.Trades.{Stands-within}
 use Rattle.btree_cut.specs.Cutting.{IsLowest}
-use Rattle.btree_cut.proofs.RootLaws.{kept-tree, kept-text}
+use Rattle.btree_cut.proofs.RootLaws.{kept-tree, kept-long, kept-text}
 use Rattle.btree_cut.proofs.ranges.sub_tree.Goals as goal
 
 pub cut-requires-clause-stands : goal.cut-requires-clause-stands
@@ -26,3 +26,12 @@ returns-clause-text g c =
     let from = c.lowest-level.result.2 in
     let is = subst (λ (l : ℕ). IsLowest l t c.args.start c.args.n m low from) c.level_of.ensures c.lowest-level.ensures in
     IfOk-weaker c.cut.result _ _ (λ e cut. kept-text t c.args.start c.args.n m low from e c.requires.tree c.requires.filled c.requires.some c.requires.within is cut) c.cut.ensures.cut
+
+pub returns-clause-length : goal.returns-clause-length
+returns-clause-length g c =
+    let t = c.args.root.now in
+    let low = c.lowest-level.result.0.now in
+    let m = c.lowest-level.result.1 in
+    let from = c.lowest-level.result.2 in
+    let is = subst (λ (l : ℕ). IsLowest l t c.args.start c.args.n m low from) c.level_of.ensures c.lowest-level.ensures in
+    IfOk-weaker c.cut.result _ _ (λ e cut. kept-long t c.args.start c.args.n m low from e c.requires.tree c.requires.filled c.requires.some c.requires.within is cut) c.cut.ensures.cut
