@@ -8,7 +8,7 @@ ghost use Rattle.pool_rule.specs.Trades.{HasHolds, Stands};
 ghost use Rattle.btree_node.specs.Adding.{data_edges};
 ghost use Rattle.btree_node.specs.Made.{IsMadeFrom, IsRefusedFrom};
 ghost use Rattle.btree_cut.specs.Ranges.{ranges, ArePieces};
-ghost use Rattle.btree_cut.specs.Cutting.{kept_within};
+ghost use Rattle.btree_cut.specs.Cutting.{kept_within, HoldsWhole};
 
 use crate::cutting::cut;
 use crate::lowest::lowest;
@@ -41,6 +41,7 @@ pub fn sub_tree<P: Naming, B: Releaser>(
     ensures length { IfOk result (λ e. e.0.length ≡ n) }
     ensures text { IfOk result (λ e. text e ≡ take n (drop start (text root.now))) }
     ensures shared { IfOk result (λ e. ArePieces (ranges (data_edges root.now) start n) (data_edges e)) }
+    ensures whole { IfOk result (HoldsWhole root.now start n) }
     ensures made { IfOk result (IsMadeFrom [] (kept_within root.now start n) w.old w.new) }
     ensures few { IfOk result (λ _. length w.new.taken ≤ length w.old.taken + 25) }
     ensures refused { IfErr result (λ x. IsRefusedFrom P.size [] x w.old w.new) }
@@ -71,6 +72,7 @@ fn keep_range<P: Naming, B: Releaser>(
     ensures length { IfOk result (λ _. root.new.0.length ≡ n) }
     ensures text { IfOk result (λ _. text root.new ≡ take n (drop start (text root.old))) }
     ensures shared { IfOk result (λ _. ArePieces (ranges (data_edges root.old) start n) (data_edges root.new)) }
+    ensures whole { IfOk result (λ _. HoldsWhole root.old start n root.new) }
     ensures made { IfOk result (λ _. IsMadeFrom (root.old ∷ []) (kept_within root.old start n) w.old w.new root.new) }
     ensures few { IfOk result (λ _. length w.new.taken ≤ length w.old.taken + 25) }
     ensures refused { IfErr result (λ x. IsRefusedFrom P.size [] x w.old w.new) }
@@ -107,6 +109,7 @@ pub fn cut_front<P: Naming, B: Releaser>(
     ensures length { IfOk result (λ _. root.new.0.length ≡ root.old.0.length - n) }
     ensures text { IfOk result (λ _. text root.new ≡ drop n (text root.old)) }
     ensures shared { IfOk result (λ _. ArePieces (ranges (data_edges root.old) n (root.old.0.length - n)) (data_edges root.new)) }
+    ensures whole { IfOk result (λ _. HoldsWhole root.old n (root.old.0.length - n) root.new) }
     ensures made { IfOk result (λ _. IsMadeFrom (root.old ∷ []) (kept_within root.old n (root.old.0.length - n)) w.old w.new root.new) }
     ensures few { IfOk result (λ _. length w.new.taken ≤ length w.old.taken + 25) }
     ensures refused { IfErr result (λ x. IsRefusedFrom P.size [] x w.old w.new) }
@@ -137,6 +140,7 @@ pub fn cut_back<P: Naming, B: Releaser>(
     ensures length { IfOk result (λ _. root.new.0.length ≡ root.old.0.length - n) }
     ensures text { IfOk result (λ _. text root.new ≡ take (root.old.0.length - n) (text root.old)) }
     ensures shared { IfOk result (λ _. ArePieces (ranges (data_edges root.old) 0 (root.old.0.length - n)) (data_edges root.new)) }
+    ensures whole { IfOk result (λ _. HoldsWhole root.old 0 (root.old.0.length - n) root.new) }
     ensures made { IfOk result (λ _. IsMadeFrom (root.old ∷ []) (kept_within root.old 0 (root.old.0.length - n)) w.old w.new root.new) }
     ensures few { IfOk result (λ _. length w.new.taken ≤ length w.old.taken + 25) }
     ensures refused { IfErr result (λ x. IsRefusedFrom P.size [] x w.old w.new) }
