@@ -7,6 +7,8 @@ mod ends;
 mod order;
 mod reading;
 mod searching;
+#[cfg(test)]
+mod tests;
 mod writing;
 
 pub use bytes::at;
