@@ -6,6 +6,7 @@ ESCAPES = {b'"': b'"', b"\\": b"\\", b"n": b"\n"}
 ESCAPE = re.compile(rb"\\(x[0-9a-f]{2}|.)")
 WITH_TEXT = {b"let", b"append", b"prepend", b"find", b"starts", b"ends"}
 ON_CELLS = {b"put", b"take", b"peek", b"swap"}
+OPTIONS = {b"pool", b"passes"}
 MOST_BYTES = 2147483647
 MOST_SHOWN = 4096
 
@@ -136,9 +137,9 @@ def sessions_of(script):
     """The sessions of a script, in order: the name and the commands of each, a command as its first word and the others."""
     sessions = []
     for line in script.split(b"\n")[1:]:
-        if not line or line.startswith(b"#"):
-            continue
         word, _, rest = line.partition(b" ")
+        if not line or line.startswith(b"#") or word in OPTIONS:
+            continue
         if word == b"session":
             sessions.append((rest.decode(), []))
         elif word != b"end":
@@ -146,12 +147,20 @@ def sessions_of(script):
     return sessions
 
 
-def output(names, replies, history):
+def pool_of(script):
+    """How many numbers the script's pool has."""
+    for line in script.split(b"\n"):
+        if line.startswith(b"pool "):
+            return int(line.split(b" ")[1])
+    return 65536
+
+
+def output(names, replies, history, pool=65536):
     """The text of a run: each session's line and replies, the history, and the pool, which all numbers came back to."""
     lines = []
     for name, said in zip(names, replies):
         lines += [f"session {name}", *said]
-    lines += [f"history {len(history)}", *history, "pool 0 of 65536"]
+    lines += [f"history {len(history)}", *history, f"pool 0 of {pool}"]
     return "".join(f"{line}\n" for line in lines)
 
 
@@ -165,4 +174,4 @@ def run(script):
             reply, entry = session.does(word, rest)
             replies[-1].append(reply)
             history += [entry] if entry else []
-    return output([name for name, _ in sessions], replies, history)
+    return output([name for name, _ in sessions], replies, history, pool_of(script))
