@@ -1,5 +1,5 @@
 -- So many flats are held.
-use Rattle.std.proofs.Common.{ℕ, ◌≡◌, ◌*◌, ◌≤◌, [], length, sum_by, vec_capacity}
+use Rattle.std.proofs.Common.{◌≡◌, ◌*◌, ◌≤◌, [], length, sum_by, vec_capacity}
 use Rattle.std.specs.List.{All}
 use Rattle.node_edges.specs.Trees.{IsTreeAt}
 use Rattle.pool_rule.specs.Trades.{Trades}
