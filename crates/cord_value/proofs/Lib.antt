@@ -6,3 +6,5 @@ pub mod Growth
 pub mod Roots
 pub mod Shapes
 mod SumLaws
+pub mod JoinLaws
+pub mod JoinSteps

@@ -6,3 +6,4 @@ pub mod Workers
 pub mod Changes
 pub mod Grown
 pub mod Externals
+pub mod Joined
