@@ -7,3 +7,5 @@ pub mod Roots
 pub mod Shapes
 mod SumLaws
 mod RangeLaws
+pub mod JoinLaws
+pub mod JoinSteps

@@ -7,3 +7,4 @@ pub mod Changes
 pub mod Grown
 pub mod Externals
 pub mod Ranges
+pub mod Joined
