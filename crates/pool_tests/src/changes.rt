@@ -1,4 +1,4 @@
-//! Cords that are cut, get sums and lose them, step by step.
+//! Cords that are cut and joined, get sums and lose them, step by step.
 ghost use Rattle.std.specs.Prelude.{◌≡◌, ◌≤◌, length};
 ghost use Rattle.pool_rule.specs.Trades.{SameHolds};
 ghost use Rattle.node_pool.specs.Opened.{opened_table, opened_numbers, opened_passes, opened_workers, opened_boxes};
@@ -21,6 +21,10 @@ enum Step {
     Range(u64, u64),
     SetSum(u32),
     Copy,
+    /// A cord of so many `s` is added behind.
+    Join(usize),
+    JoinFront(usize),
+    Double,
 }
 
 /// How long the cord is, whether it is a tree, its sum, and its first and its last byte.
@@ -66,6 +70,34 @@ fn replace<P: Naming>(
     }
 }
 
+/// Adds a cord of so many `s`, which is released then.
+fn join<P: Naming>(
+    alloc: Global,
+    pool: &Pool<P, Boxes>,
+    w: &mut Worker<P>,
+    cord: &mut Cord<P>,
+    size: usize,
+    in_front: bool,
+) -> Result<(), CordError>
+    requires room { length w.old.holds ≤ 96 }
+    ensures same { SameHolds w.old.holds w.new.holds }
+{
+    let Ok(bytes) = vec![in alloc; b's'; size] else {
+        return Err(CordError::Memory);
+    };
+    let mut other = match Cord::from_bytes(alloc, pool, w, bytes.as_slice()) {
+        Ok(other) => other,
+        Err(error) => return Err(error),
+    };
+    let answer = if in_front {
+        cord.prepend_cord(alloc, pool, w, &mut other)
+    } else {
+        cord.append_cord(alloc, pool, w, &mut other)
+    };
+    other.release(pool, w);
+    answer
+}
+
 fn taken<P: Naming>(
     alloc: Global,
     pool: &Pool<P, Boxes>,
@@ -81,6 +113,9 @@ fn taken<P: Naming>(
         Step::CutFront(n) => cord.cut_front(alloc, pool, w, n),
         Step::CutBack(n) => cord.cut_back(alloc, pool, w, n),
         Step::SetSum(value) => cord.set_sum(alloc, pool, w, value),
+        Step::Join(size) => join(alloc, pool, w, cord, size, false),
+        Step::JoinFront(size) => join(alloc, pool, w, cord, size, true),
+        Step::Double => cord.double(alloc, pool, w),
         Step::Range(pos, n) => {
             let made = cord.sub(alloc, pool, w, pos, n);
             replace(pool, w, cord, made)
@@ -142,7 +177,7 @@ fn outcomes_of<P: Naming>(
 const TWENTY: &[u8] = b"0123456789abcdefghij";
 
 #[test]
-fn ranges_cuts_and_sums_leave_what_they_say(rt: HostRuntime) {
+fn ranges_cuts_joins_and_sums_leave_what_they_say(rt: HostRuntime) {
     let alloc = rt.alloc();
     let whole = (20, true, None, Some(b'0'), Some(b'j'));
     let none = (0, false, None, None, None);
@@ -221,6 +256,72 @@ fn ranges_cuts_and_sums_leave_what_they_say(rt: HostRuntime) {
                 (Ok(()), (20, true, Some(7), Some(b'0'), Some(b'j'))),
                 (Ok(()), (20, true, Some(8), Some(b'0'), Some(b'j'))),
                 (Ok(()), (19, true, None, Some(b'0'), Some(b'i'))),
+            ],
+        ),
+        (
+            3,
+            TWENTY,
+            [Step::Join(512), Step::Join(16), Step::CutBack(512)],
+            [
+                (Ok(()), (532, true, None, Some(b'0'), Some(b's'))),
+                (
+                    Err(CordError::NoNumber { seen: 3 }),
+                    (532, true, None, Some(b'0'), Some(b's')),
+                ),
+                (Ok(()), whole),
+            ],
+        ),
+        (
+            3,
+            TWENTY,
+            [Step::Join(511), Step::CutBack(0), Step::CutFront(5)],
+            [
+                (Err(CordError::NoNumber { seen: 3 }), whole),
+                (Ok(()), whole),
+                (Ok(()), (15, false, None, Some(b'5'), Some(b'j'))),
+            ],
+        ),
+        (
+            5,
+            b"abc",
+            [Step::Join(600), Step::JoinFront(600), Step::JoinFront(0)],
+            [
+                (Ok(()), (603, true, None, Some(b'a'), Some(b's'))),
+                (Ok(()), (1203, true, None, Some(b's'), Some(b's'))),
+                (Ok(()), (1203, true, None, Some(b's'), Some(b's'))),
+            ],
+        ),
+        (
+            4,
+            b"",
+            [Step::Join(600), Step::SetSum(5), Step::Join(1)],
+            [
+                (Ok(()), (600, true, None, Some(b's'), Some(b's'))),
+                (Ok(()), (600, true, Some(5), Some(b's'), Some(b's'))),
+                (Ok(()), (601, true, None, Some(b's'), Some(b's'))),
+            ],
+        ),
+        (
+            8,
+            TWENTY,
+            [Step::Double, Step::Double, Step::Join(600)],
+            [
+                (Ok(()), (40, true, None, Some(b'0'), Some(b'j'))),
+                (Ok(()), (80, true, None, Some(b'0'), Some(b'j'))),
+                (Ok(()), (680, true, None, Some(b'0'), Some(b's'))),
+            ],
+        ),
+        (
+            3,
+            b"0123456789",
+            [Step::Double, Step::SetSum(1), Step::Double],
+            [
+                (Ok(()), (20, true, None, Some(b'0'), Some(b'9'))),
+                (Ok(()), (20, true, Some(1), Some(b'0'), Some(b'9'))),
+                (
+                    Err(CordError::NoNumber { seen: 3 }),
+                    (20, true, Some(1), Some(b'0'), Some(b'9')),
+                ),
             ],
         ),
     ] {
