@@ -2,6 +2,7 @@
 //! ends with; and all bytes to a sink. No memory is taken, and an expected checksum isn't looked at.
 #![tactic(auto)]
 
+mod border;
 mod bytes;
 mod ends;
 mod order;

@@ -152,7 +152,7 @@ fn agrees_at<P: Naming>(cord: &Cord<P>, text: &[u8], place: usize) -> bool {
             size: text.len() as u64,
         }),
     };
-    for size in [1usize, 2, 3, 5, 40, 5000] {
+    for size in [1usize, 2, 3, 5, 40, 300, 5000] {
         let (needle, _) = back.split_at(size.min(back.len()));
         if !finds(cord, text, needle) {
             return false;
