@@ -1,20 +1,19 @@
 -- What a token finds at a turn of the registry, and what it may do there.
 use Rattle.std.proofs.Common.{◌≡◌, ◌≢◌, ◌⊎◌, ℕ, zero, suc, ◌<◌, ◌≤◌, ◌+◌, ◌-◌, ◌^◌, ◌*◌, List, [], ◌∷◌, map, Bool, true, false, length, IsSome, Option, Some, None, refl, sym, ap, ◌∙◌, subst, inl, inr, ⊎_elim, arith}
-use mathlib.Core.Option.{some, some-injective, some-ne-none}
-use lib.ListN.{get_elem?}
+use mathlib.Core.Option.{some, some-injective}
 use Rattle.atomic_table.proofs.Lists.{at_map}
 use Rattle.node_forest.specs.Label.{Node}
 use Rattle.turn_desk.specs.Agreements.{Agreed}
-use Rattle.turn_desk.specs.Spots.{Spot, home, out}
+use Rattle.turn_desk.specs.Spots.{home}
 use Rattle.cordz_core.specs.declared.slot.SlotState.{SlotState}
-use Rattle.cordz_core.specs.declared.slot.SlotState.TheVariants.{Free as IsFree, Reserved, Linked, Leaving, Queued, Clearing}
+use Rattle.cordz_core.specs.declared.slot.SlotState.TheVariants.{Reserved, Linked, Leaving, Queued, Clearing}
 use Rattle.cordz_core.specs.Contents.{Contents, state_of, birth_of}
-use Rattle.cordz_core.specs.History.{History, Use, Tracked, use_of, stamp_in}
+use Rattle.cordz_core.specs.History.{History, Tracked, use_of, stamp_in}
 use Rattle.cordz_core.specs.Legal.{state_after, state_for, state_by}
 use Rattle.cordz_core.specs.Queue.{has}
 use Rattle.cordz_core.specs.Times.{Course, Stays, Left, Done, records, snapshots, record_in, SnapshotTimes, deleted_at}
 use Rattle.record_rule.specs.declared.values.DeskValue.{DeskValue}
-use Rattle.record_rule.specs.declared.values.DeskValue.TheVariants.{List as Lists, Record}
+use Rattle.record_rule.specs.declared.values.DeskValue.TheVariants.{List as Lists}
 use Rattle.record_rule.specs.declared.values.Rep.{Rep}
 use Rattle.record_rule.specs.declared.views.Claim.{Claim}
 use Rattle.record_rule.specs.declared.views.Claim.TheVariants.{Nothing, Promised, Written, Owned, Unlinked, Cleared, Emptied}
@@ -24,15 +23,15 @@ use Rattle.record_rule.specs.declared.views.Noted.{Noted}
 use Rattle.record_rule.specs.declared.views.TokenView.{TokenView}
 use Rattle.record_rule.specs.declared.views.DeskView.{DeskView}
 use Rattle.record_rule.specs.declared.views.DeskView.TheVariants.{Token}
-use Rattle.record_rule.specs.Log.{after_deed, history, is_walking, walk_of, made_of}
+use Rattle.record_rule.specs.Log.{after_deed, history, is_walking, walk_of}
 use Rattle.record_rule.specs.Steps.{Does, MayFree, IsWritten, IsOwned, IsUnlinked, registry_of, IsList}
-use Rattle.record_rule.specs.Views.{claim_at, most_actions, most_tokens, all_left}
+use Rattle.record_rule.specs.Views.{claim_at, most_actions}
 use Rattle.record_rule.specs.World.{Facts, Has, IsToken, WalksIf, IsSlot, IsWorld, Stands, value_of}
 use Rattle.record_rule.proofs.Deeds.{tracked_small}
-use Rattle.record_rule.proofs.Walks.{IsOut, out_of, Gave, gave}
+use Rattle.record_rule.proofs.Walks.{IsOut, out_of, gave}
 use Rattle.cordz_desk.specs.declared.asking.Ask.{Ask}
 use Rattle.cordz_desk.specs.declared.asking.Ask.TheVariants.{Reserve, Free, Track, Unlink, Settle, Snap, Unsnap, Head, Next}
-use Rattle.cordz_desk.specs.Asking.{IsWalked, Can, May, IsAnswerTo, Performed}
+use Rattle.cordz_desk.specs.Asking.{IsWalked, Can, May, Performed}
 
 module _ {S : Type 0} (tree_of : S → Node) (fits : S → Type 0) where
   -- the registry at a token's turn, with all that is so besides

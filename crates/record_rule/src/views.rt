@@ -76,6 +76,6 @@ pub enum DeskView {
     Token(TokenView),
     /// A tracked record's owner: its slot, its stamp, its notes, and whether it is bare.
     Ticket(u16, u64, LinkedList<Noted>, bool),
-    /// A stamp and an update that its ticket showed.
-    Shown(u64, u64),
+    /// A ticket that lent what it knows.
+    Lent,
 }

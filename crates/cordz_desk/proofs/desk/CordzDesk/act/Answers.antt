@@ -1,5 +1,5 @@
 -- What the proof of `CordzDesk::act` needs beyond the search.
-use Rattle.std.proofs.Common.{◌<◌, ◌≤◌, ◌-◌, ◌^◌, ◌+◌, length, [], sym, refl, ap, ◌∙◌, subst}
+use Rattle.std.proofs.Common.{◌<◌, ◌≤◌, ◌-◌, ◌^◌, ◌+◌, length, [], sym, ap, ◌∙◌, subst}
 use Rattle.turn_desk.specs.Passes.{desk_view}
 use Rattle.record_rule.specs.Log.{after_deed, made_of}
 use Rattle.record_rule.specs.Steps.{registry_of, IsList, Makes, Does}
