@@ -266,7 +266,7 @@ module _ {S : Type 0} (tree_of : S → Node) (fits : S → Type 0) where
     settles s Deleted q a (Unlinked own bare) e may =
         let h = mine (Settle s Deleted) q s (Unlinked own bare) a e (λ z. cc) in
         let o = slot_of (Settle s Deleted) q s (Unlinked own bare) a h in
-        acts_on (Settle s Deleted) q s (Cleared (Some bare)) (g.live (stamp_in (history g.log) s)) p.untracked a record {
+        acts_on (Settle s Deleted) q s (Cleared (Some (own, bare))) (g.live (stamp_in (history g.log) s)) p.untracked a record {
           small = h.0;
           owner = h.1;
           at = o.2.4.0;
@@ -276,8 +276,8 @@ module _ {S : Type 0} (tree_of : S → Node) (fits : S → Type 0) where
           stamps = λ t. refl;
           rep = o.0;
           there = o.1;
-          is = (refl, o.2.1, o.2.3, o.2.4);
-          untracked = untracked_same (Settle s Deleted) q s (Cleared (Some bare)) (g.live (stamp_in (history g.log) s)) a (subst (Has g by s) (sym e) h) (λ z. z);
+          is = (refl, o.2.1, (o.2.2, o.2.3), o.2.4);
+          untracked = untracked_same (Settle s Deleted) q s (Cleared (Some (own, bare))) (g.live (stamp_in (history g.log) s)) a (subst (Has g by s) (sym e) h) (λ z. z);
           clauses = ap (λ (z : Claim). record { number = p.number; own = entry_of p place (Settle s Deleted) ∷ p.own; claims = (s, settled_claim Deleted z) ∷ p.claims; reads = p.reads; untracked = p.untracked; shown = p.shown }) e;
         }
     settles s Queued q a (Unlinked own bare) e may =

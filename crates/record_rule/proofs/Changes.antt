@@ -76,9 +76,9 @@ module _ {S : Type 0} (tree_of : S → Node) (fits : S → Type 0) where
   held_record (Cleared bare) state s stamp at live notes r has k = k.3
   held_record Emptied state s stamp at live notes r has k = absurd (let z : false ≡ true = sym has ∙ ap is_none k.2 in cc)
 
-  said_kept : (bare : Option Bool) (x y : Bool) → y ≡ x → MatchOption bare ⊤ (λ b. b ≡ x) → MatchOption bare ⊤ (λ b. b ≡ y)
-  said_kept None x y e k = tt
-  said_kept (Some b) x y e k = k ∙ sym e
+  said_kept : (bare : Option (ℕ × Bool)) (stamp : ℕ) (x y : Bool) → y ≡ x → MatchOption bare ⊤ (λ b. (b.0 ≡ stamp) × (b.1 ≡ x)) → MatchOption bare ⊤ (λ b. (b.0 ≡ stamp) × (b.1 ≡ y))
+  said_kept None stamp x y e k = tt
+  said_kept (Some b) stamp x y e k = (k.0, k.1 ∙ sym e)
 
   -- a slot whose record has a share of the same tree, and had one before
   kept_slot : (c : Claim) (state : SlotState) (s stamp at : ℕ) (live : Bool) (notes : List Noted) (old new : Rep S) → IsKept tree_of fits old new → is_bare old ≡ false → is_bare new ≡ false
@@ -89,7 +89,7 @@ module _ {S : Type 0} (tree_of : S → Node) (fits : S → Type 0) where
   kept_slot (Written own ns) state s stamp at live notes old new k was is z = (z.0, z.1, z.2, z.3, is, kept_at s stamp at notes old new k z.5)
   kept_slot (Owned own ns bare) state s stamp at live notes old new k was is z = (z.0, z.1, z.2, z.3, z.4 ∙ (was ∙ sym is), kept_at s stamp at notes old new k z.5)
   kept_slot (Unlinked own bare) state s stamp at live notes old new k was is z = (z.0, z.1, z.2, z.3 ∙ (was ∙ sym is), kept_at s stamp at notes old new k z.4)
-  kept_slot (Cleared bare) state s stamp at live notes old new k was is z = (z.0, z.1, said_kept bare (is_bare old) (is_bare new) (is ∙ sym was) z.2, kept_at s stamp at notes old new k z.3)
+  kept_slot (Cleared bare) state s stamp at live notes old new k was is z = (z.0, z.1, said_kept bare stamp (is_bare old) (is_bare new) (is ∙ sym was) z.2, kept_at s stamp at notes old new k z.3)
   kept_slot Emptied state s stamp at live notes old new k was is z = absurd (let e : false ≡ true = sym was ∙ ap is_none z.2 in cc)
 
   -- the notes and the record after a ticket's turn

@@ -154,7 +154,7 @@ module _ {S : Type 0} where
   pub record Drained (l : ℕ) (x y : DeskValue S) (v w : DeskView) : Type 0 where
     pub token : TokenView
     pub slot : ℕ
-    pub bare : Option Bool
+    pub bare : Option (ℕ × Bool)
     pub old : Rep S
     pub new : Rep S
     pub at : l ≡ slot + 1

@@ -56,7 +56,7 @@ unlinked_claim (Owned stamp notes bare) = Unlinked stamp bare
 unlinked_claim c = c
 
 abbrev pub settled_claim : Settled → Claim → Claim
-settled_claim Deleted (Unlinked stamp bare) = Cleared (Some bare)
+settled_claim Deleted (Unlinked stamp bare) = Cleared (Some (stamp, bare))
 settled_claim Deleted c = c
 settled_claim Queued c = Nothing
 

@@ -118,7 +118,7 @@ module _ {S : Type 0} where
         × IsRecordAt s stamp at notes r
     IsSlot (Unlinked own bare) state s stamp at live notes r = (state ≡ Leaving) × (live ≡ false) × (own ≡ stamp) × (bare ≡ is_bare r)
         × IsRecordAt s stamp at notes r
-    IsSlot (Cleared bare) state s stamp at live notes r = (state ≡ Clearing) × (live ≡ false) × MatchOption bare ⊤ (λ b. b ≡ is_bare r)
+    IsSlot (Cleared bare) state s stamp at live notes r = (state ≡ Clearing) × (live ≡ false) × MatchOption bare ⊤ (λ b. (b.0 ≡ stamp) × (b.1 ≡ is_bare r))
         × IsRecordAt s stamp at notes r
     IsSlot Emptied state s stamp at live notes r = (state ≡ Clearing) × (at ≡ s) × (r.hold ≡ None)
 
