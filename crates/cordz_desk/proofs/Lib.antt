@@ -1,2 +1,5 @@
+pub mod Claims
 pub mod Finds
+pub mod GivenUp
 pub mod Opens
+pub mod Turning

@@ -1,6 +1,9 @@
 pub mod Asking
 pub mod Fresh
 pub mod Opened
+pub mod Owners
+pub mod Reps
 pub mod Seeing
 pub mod Shares
+pub mod Tickets
 pub mod Tokens

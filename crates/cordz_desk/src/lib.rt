@@ -4,13 +4,18 @@
 
 mod asking;
 mod desk;
+mod handing;
 mod list;
 mod naming;
 mod records;
+mod reps;
 mod rule;
 mod share;
 mod start;
+mod tickets;
 mod tokens;
+mod tracking;
+mod turns;
 mod walks;
 
 pub use desk::CordzDesk;
@@ -18,4 +23,5 @@ pub use naming::DeskNaming;
 pub use rule::RecordRule;
 pub use share::Share;
 pub use start::OpenedDesk;
+pub use tickets::{Change, Ticket};
 pub use tokens::{CordzPass, Reserved};
