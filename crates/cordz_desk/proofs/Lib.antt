@@ -2,4 +2,6 @@ pub mod Claims
 pub mod Finds
 pub mod GivenUp
 pub mod Opens
+pub mod Sharing
+pub mod Showing
 pub mod Turning

@@ -1,5 +1,5 @@
 -- What is found at the turn of a slot's record, and what may be done there.
-use Rattle.std.proofs.Common.{◌≡◌, ◌≢◌, ◌⊎◌, ℕ, ◌<◌, ◌+◌, List, [], ◌∷◌, map, Bool, true, false, MatchOption, Option, Some, None, refl, sym, ap, ◌∙◌, subst, inl, inr, ⊎_elim, arith}
+use Rattle.std.proofs.Common.{◌≡◌, ◌≢◌, ◌⊎◌, ℕ, ◌<◌, ◌≤◌, ◌+◌, List, [], ◌∷◌, map, Bool, true, false, MatchOption, Option, Some, None, refl, sym, ap, ◌∙◌, subst, inl, inr, ⊎_elim, arith}
 use Rattle.std.specs.Bool.{⊤}
 use mathlib.Core.Option.{some, some-injective}
 use lib.ListN.{get_elem?}
@@ -19,12 +19,12 @@ use Rattle.record_rule.specs.declared.views.DeskView.TheVariants.{Token}
 use Rattle.record_rule.specs.declared.views.Noted.{Noted}
 use Rattle.record_rule.specs.declared.views.TokenView.{TokenView}
 use Rattle.record_rule.specs.Log.{history}
-use Rattle.record_rule.specs.Notes.{AllUntracked}
-use Rattle.record_rule.specs.Steps.{IsNew, Leaves}
-use Rattle.record_rule.specs.Views.{claim_at, claiming_view, token_in, IsTokenView}
-use Rattle.record_rule.specs.World.{Facts, Has, IsToken, Fits, IsRecord, IsSlot, IsWorld, Stands, value_of, is_none}
-use Rattle.record_rule.proofs.Changes.{slot_found}
-use Rattle.cordz_desk.specs.Owners.{newest_tree, IsNewestTree}
+use Rattle.record_rule.specs.Notes.{AllUntracked, AllShown, AreNotes, ReachesTo, NoneShownLater}
+use Rattle.record_rule.specs.Steps.{IsNew, IsKept, Leaves}
+use Rattle.record_rule.specs.Views.{claim_at, claiming_view, reading, token_in, IsTokenView}
+use Rattle.record_rule.specs.World.{Facts, Has, IsToken, Fits, IsRecord, IsSlot, IsWorld, Stands, value_of, is_none, is_bare, note_of}
+use Rattle.record_rule.proofs.Changes.{slot_found, held_record}
+use Rattle.cordz_desk.specs.Owners.{slot_in, notes_in, bare_in, newest_note, newest_tree, IsNewest, IsNewestTree, IsTicketView}
 use Rattle.cordz_desk.specs.Reps.{rep_of, IsRep, holding}
 use Rattle.cordz_desk.specs.Tokens.{IsCleared}
 
@@ -159,3 +159,75 @@ module _ {S : Type 0} (tree_of : S → Node) (fits : S → Type 0) where
       let k = claimed_at s (Record r) v (Cleared (Some (stamp, bare))) a h in
       let u : AllUntracked g.notes g.live ((stamp, notes) ∷ us) = subst (AllUntracked g.notes g.live) untracked t.untracked in
       (sym k.2.1, newest_of r notes (g.notes (stamp_in (history g.log) s)) r.hold (sym u.1 ∙ ap g.notes k.2.0) k.3.2 k.3.2.share)
+
+  -- what a ticket finds
+  pub record Owns (r : Rep S) (v : DeskView) : Type 0 where
+    pub stamped : r.stamp ≡ Rattle.cordz_desk.specs.Owners.stamp_in v
+    pub note : IsNewest (note_of r) (notes_in v)
+    pub bare : is_bare r ≡ bare_in v
+    pub share : MatchOption r.hold ⊤ (λ x. fits x × IsNewestTree (tree_of x) (notes_in v))
+
+  pub owner_found : (s : ℕ) (r : Rep S) (v : DeskView) → Agreed (Stands tree_of fits) (s + 1) (home (Record r)) v → IsTicketView v → s ≡ slot_in v → Owns r v
+  owner_found s r v found is at =
+      let a = at_record s (Record r) v found in
+      let g = a.facts in
+      let c : Claim = Owned (Rattle.cordz_desk.specs.Owners.stamp_in v) (notes_in v) (bare_in v) in
+      let h : Has g a.seat s c = subst (λ (z : ℕ). Has g a.seat z c) (sym at) (subst (λ (z : DeskView). Fits g a.seat (Some z)) is a.view) in
+      let k = claimed_at s (Record r) v c a h in
+      record {
+        stamped = k.5.1 ∙ sym k.2;
+        note = ap newest_note (k.3 ∙ k.5.2.list) ∙ ap Some k.5.2.note;
+        bare = sym k.4;
+        share = newest_of r (notes_in v) (g.notes (stamp_in (history g.log) s)) r.hold k.3 k.5.2 k.5.2.share;
+      }
+
+  -- a token reads a record, or finds that it can't
+  pub reads : (s : ℕ) (x y : DeskValue S) (v : DeskView) (n : Noted) → IsRep x → IsRep y → IsKept tree_of fits (rep_of x) (rep_of y) → is_bare (rep_of y) ≡ false → n.note ≡ note_of (rep_of x)
+      → MatchOption (rep_of x).hold ⊥ (λ o. tree_of o ≡ n.tree) → IsTokenView v → s < 256 → Leaves tree_of fits (s + 1) x y v (Token (reading n (token_in v)))
+  reads s x y v n from to kept has noted tree token small = inr (inr (inr (inr (inl record {
+    token = token_in v;
+    slot = s;
+    note = n;
+    old = rep_of x;
+    new = rep_of y;
+    at = refl;
+    small = small;
+    from = from;
+    to = to;
+    before = token;
+    after = refl;
+    kept = kept;
+    some = has;
+    noted = noted;
+    tree = tree;
+  }))))
+
+  pub passes : (l : ℕ) (x y : DeskValue S) (v : DeskView) → y ≡ x → Leaves tree_of fits l x y v v
+  passes l x y v e = inr (inr (inr (inr (inr record { value = e; view = refl }))))
+
+  held_some : (o : Option S) (t : Node) → MatchOption o ⊥ (λ z. tree_of z ≡ t) → is_none o ≡ false
+  held_some None t m = absurd m
+  held_some (Some z) t m = refl
+
+  held_tree : (o : Option S) (t u : Node) → MatchOption o ⊥ (λ z. tree_of z ≡ t) → MatchOption o ⊤ (λ z. fits z × (tree_of z ≡ u)) → u ≡ t
+  held_tree None t u a b = absurd a
+  held_tree (Some z) t u a b = sym b.1 ∙ a
+
+  none_shown : (notes : ℕ → List Noted) (stamp update : ℕ) (newest : Noted) (older : List Noted) → notes stamp ≡ newest ∷ older → newest.note.update ≡ update → (us : List (ℕ × ℕ)) → AllShown notes us → NoneShownLater stamp update us
+  none_shown notes stamp update newest older e f [] k = tt
+  none_shown notes stamp update newest older e f (u ∷ us) k =
+      ((λ is. let r : u.1 ≤ newest.note.update = subst (ReachesTo u.1) (ap notes is ∙ e) k.0 in omega arith), none_shown notes stamp update newest older e f us k.1)
+
+  -- what is read is as long as its note says, and isn't older than what was shown
+  pub read_found : (s : ℕ) (r : Rep S) (v : DeskView) (t : Node) → Agreed (Stands tree_of fits) (s + 1) (home (Record r)) v → IsTokenView v → s < 256 → MatchOption r.hold ⊥ (λ o. tree_of o ≡ t)
+      → (r.length ≡ t.0.length) × NoneShownLater r.stamp r.update (token_in v).shown
+  read_found s r v t found is small tree =
+      let a = at_record s (Record r) v found in
+      let g = a.facts in
+      let stamp : ℕ = stamp_in (history g.log) s in
+      let k = held_record tree_of fits (g.claims s) (state_of g.registry s) s stamp (g.slot stamp) (g.live stamp) (g.notes stamp) r (held_some r.hold t tree) (slot_at s (Record r) v a small) in
+      let n : AreNotes stamp (k.2.newest ∷ k.2.older) = subst (AreNotes stamp) k.2.list (a.world.notes stamp) in
+      let same = held_tree r.hold t k.2.newest.tree tree k.2.share in (
+        sym (ap (λ z. z.length) k.2.note) ∙ (n.1 ∙ ap (λ (z : Node). z.0.length) same),
+        none_shown g.notes r.stamp r.update k.2.newest k.2.older (ap g.notes k.1 ∙ k.2.list) (ap (λ z. z.update) k.2.note) (token_in v).shown (token_at s (Record r) v a is).shown,
+      )

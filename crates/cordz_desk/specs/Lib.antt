@@ -2,6 +2,7 @@ pub mod Asking
 pub mod Fresh
 pub mod Opened
 pub mod Owners
+pub mod Reading
 pub mod Reps
 pub mod Seeing
 pub mod Shares

@@ -44,6 +44,10 @@ IsNewest n ns = newest_note ns ≡ Some n
 abbrev pub IsNewestTree : Node → List Noted → Type 0
 IsNewestTree t ns = newest_tree ns ≡ Some t
 
+-- a note and its tree
+abbrev pub noted_as : Note → Node → Noted
+noted_as note tree = record { note = note; tree = tree }
+
 -- the note of a new record of a tree
 abbrev pub first_note : ℕ → Node → Noted
 first_note stamp tree = record { note = record { stamp = stamp; update = 0; length = tree.0.length }; tree = tree }

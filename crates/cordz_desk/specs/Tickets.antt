@@ -53,8 +53,9 @@ module _ {P D : Type 0} {p : _} {d : _} where
     pub bare : is_bare (rep_of (taken_value c.turn)) ≡ bare_of t
     pub tree : MatchOption (rep_of (taken_value c.turn)).hold ⊤ (λ x. IsNewestTree (tree_in x) (notes_of t))
 
-  -- a share of the tree of the ticket's record
-  pub record IsShareOf (t : Ticket P D p d) (x : Share P) : Type 0 where
+-- a share of the tree of a record that has these notes, and isn't bare
+module _ {P : Type 0} where
+  pub record IsShareOf (notes : List Noted) (bare : Bool) (x : Share P) : Type 0 where
     pub share : IsShare x
-    pub tree : IsNewestTree (tree_in x) (notes_of t)
-    pub some : bare_of t ≡ false
+    pub tree : IsNewestTree (tree_in x) notes
+    pub some : bare ≡ false

@@ -3,10 +3,12 @@
 #![tactic(auto)]
 
 mod asking;
+mod changes;
 mod desk;
 mod handing;
 mod list;
 mod naming;
+mod reading;
 mod records;
 mod reps;
 mod rule;
@@ -20,6 +22,7 @@ mod walks;
 
 pub use desk::CordzDesk;
 pub use naming::DeskNaming;
+pub use reading::RecordRefused;
 pub use rule::RecordRule;
 pub use share::Share;
 pub use start::OpenedDesk;

@@ -38,6 +38,20 @@ pub(crate) fn put_share<S: Drop>(value: &mut DeskValue<S>, share: Option<S>)
     rep.hold = share;
 }
 
+pub(crate) fn note_in<S>(value: &DeskValue<S>) -> Note
+    requires rep { IsRep value.now }
+    ensures { result ≡ note_of (rep_of value.now) }
+{
+    let DeskValue::Record(rep) = value else {
+        unreachable!()
+    };
+    Note {
+        stamp: rep.stamp,
+        update: rep.update,
+        length: rep.length,
+    }
+}
+
 pub(crate) fn write<S: Drop>(value: &mut DeskValue<S>, rep: Rep<S>)
     ensures { value.new ≡ Record rep }
 {

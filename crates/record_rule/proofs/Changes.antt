@@ -66,7 +66,7 @@ module _ {S : Type 0} (tree_of : S → Node) (fits : S → Type 0) where
   kept_at s stamp at notes old new k r = (r.0, ap (λ z. z.stamp) k.note ∙ r.1, kept_record old new notes k r.2)
 
   -- a record that isn't bare is one of these notes
-  held_record : (c : Claim) (state : SlotState) (s stamp at : ℕ) (live : Bool) (notes : List Noted) (r : Rep S) → is_bare r ≡ false → IsSlot tree_of fits c state s stamp at live notes r → IsRecordAt tree_of fits s stamp at notes r
+  pub held_record : (c : Claim) (state : SlotState) (s stamp at : ℕ) (live : Bool) (notes : List Noted) (r : Rep S) → is_bare r ≡ false → IsSlot tree_of fits c state s stamp at live notes r → IsRecordAt tree_of fits s stamp at notes r
   held_record Nothing state s stamp at live notes r has (inl k) = absurd (let z : false ≡ true = sym has ∙ ap is_none k.1 in cc)
   held_record Nothing state s stamp at live notes r has (inr k) = k.2
   held_record (Promised own) state s stamp at live notes r has k = absurd (let z : false ≡ true = sym has ∙ ap is_none k.5 in cc)
