@@ -1,19 +1,17 @@
 -- Tokens whose claims on one slot have changed.
-use Rattle.std.proofs.Common.{◌≡◌, ◌≢◌, ◌⊎◌, ℕ, List, [], ◌∷◌, Bool, true, false, cond, eqb, MatchOption, Option, Some, None, refl, sym, ap, ◌∙◌, subst, inl, inr, ⊎_elim, arith, eq-eqb, ne_eqb}
-use Rattle.std.specs.Bool.{⊤}
+use Rattle.std.proofs.Common.{◌≡◌, ◌≢◌, ℕ, List, ◌∷◌, Bool, false, cond, refl, sym, ap, ◌∙◌, subst, inl, inr, eq-eqb, ne_eqb}
 use Rattle.cordz_core.specs.declared.answers.Settled.{Settled}
-use Rattle.cordz_core.specs.declared.answers.Settled.TheVariants.{Deleted, Queued}
 use Rattle.record_rule.specs.declared.views.Claim.{Claim}
 use Rattle.record_rule.specs.declared.views.Claim.TheVariants.{Nothing, Promised, Written, Owned, Unlinked, Cleared, Emptied}
-use Rattle.record_rule.specs.declared.views.Deed.TheVariants.{Track, Unlink, Settle, Free}
+use Rattle.record_rule.specs.declared.views.Deed.TheVariants.{Track, Unlink, Settle}
 use Rattle.record_rule.specs.declared.views.DeskView.{DeskView}
-use Rattle.record_rule.specs.declared.views.DeskView.TheVariants.{Token, Ticket}
+use Rattle.record_rule.specs.declared.views.DeskView.TheVariants.{Token}
 use Rattle.record_rule.specs.declared.views.Noted.{Noted}
 use Rattle.record_rule.specs.declared.views.TokenView.{TokenView}
-use Rattle.record_rule.specs.Steps.{IsWritten, IsOwned, IsUnlinked, Splits}
-use Rattle.record_rule.specs.Views.{claim_at, claiming, done, token_in, linked_claim, unlinked_claim, settled_claim, untracked_by}
+use Rattle.record_rule.specs.Steps.{IsOwned, IsUnlinked, Splits}
+use Rattle.record_rule.specs.Views.{claim_at, claiming, done, linked_claim, unlinked_claim, settled_claim, untracked_by}
 use Rattle.cordz_desk.specs.Owners.{issuing_view, issued_view}
-use Rattle.cordz_desk.specs.Tokens.{deed_at, IsSameBut, IsCleared}
+use Rattle.cordz_desk.specs.Tokens.{deed_at}
 
 pub claim_here : (s : ℕ) (c : Claim) (cs : List (ℕ × Claim)) → claim_at ((s, c) ∷ cs) s ≡ c
 claim_here s c cs = ap (λ b. cond b c (claim_at cs s)) (eq-eqb s s refl)

@@ -1,5 +1,5 @@
 -- A record that was given up and deleted at once: what the token did, and the share that comes back.
-use Rattle.std.proofs.Common.{◌≡◌, ℕ, ◌<◌, List, [], ◌∷◌, Bool, MatchOption, Option, Some, refl, sym, ap, ◌∙◌, subst, inl}
+use Rattle.std.proofs.Common.{◌≡◌, ℕ, ◌<◌, List, ◌∷◌, Bool, MatchOption, Option, Some, sym, ap, ◌∙◌, subst, inl}
 use Rattle.std.specs.Bool.{⊤}
 use Rattle.cordz_core.specs.declared.answers.Settled.TheVariants.{Deleted}
 use Rattle.record_rule.specs.declared.values.Rep.{Rep}

@@ -1,4 +1,5 @@
 pub mod Claims
+pub mod Ends
 pub mod Finds
 pub mod GivenUp
 pub mod Opens

@@ -1,5 +1,5 @@
 -- The share that a change begins with.
-use Rattle.std.proofs.Common.{◌≡◌, Bool, true, false, List, MatchOption, Option, Some, None, sym}
+use Rattle.std.proofs.Common.{◌≡◌, Bool, List, MatchOption, Option, Some, None, sym}
 use Rattle.std.specs.Bool.{⊤}
 use Rattle.record_rule.specs.declared.views.Noted.{Noted}
 use Rattle.record_rule.specs.World.{is_none}

@@ -1,23 +1,22 @@
 -- What is found at the turn of a slot's record, and what may be done there.
-use Rattle.std.proofs.Common.{◌≡◌, ◌≢◌, ◌⊎◌, ℕ, ◌<◌, ◌≤◌, ◌+◌, List, [], ◌∷◌, map, Bool, true, false, MatchOption, Option, Some, None, refl, sym, ap, ◌∙◌, subst, inl, inr, ⊎_elim, arith}
+use Rattle.std.proofs.Common.{◌≡◌, ℕ, ◌<◌, ◌≤◌, ◌+◌, List, [], ◌∷◌, map, Bool, false, MatchOption, Option, Some, None, refl, sym, ap, ◌∙◌, subst, inl, inr, ⊎_elim, arith}
 use Rattle.std.specs.Bool.{⊤}
 use mathlib.Core.Option.{some, some-injective}
 use lib.ListN.{get_elem?}
 use Rattle.atomic_table.proofs.Lists.{at_map}
 use Rattle.node_forest.specs.Label.{Node}
 use Rattle.turn_desk.specs.Agreements.{Agreed}
-use Rattle.turn_desk.specs.Spots.{Spot, home, out}
+use Rattle.turn_desk.specs.Spots.{home}
 use Rattle.cordz_core.specs.Contents.{state_of}
 use Rattle.cordz_core.specs.History.{stamp_in}
 use Rattle.record_rule.specs.declared.values.DeskValue.{DeskValue}
-use Rattle.record_rule.specs.declared.values.DeskValue.TheVariants.{List as Lists, Record}
+use Rattle.record_rule.specs.declared.values.DeskValue.TheVariants.{Record}
 use Rattle.record_rule.specs.declared.values.Rep.{Rep}
 use Rattle.record_rule.specs.declared.views.Claim.{Claim}
 use Rattle.record_rule.specs.declared.views.Claim.TheVariants.{Nothing, Promised, Written, Owned, Unlinked, Cleared, Emptied}
 use Rattle.record_rule.specs.declared.views.DeskView.{DeskView}
 use Rattle.record_rule.specs.declared.views.DeskView.TheVariants.{Token}
 use Rattle.record_rule.specs.declared.views.Noted.{Noted}
-use Rattle.record_rule.specs.declared.views.TokenView.{TokenView}
 use Rattle.record_rule.specs.Log.{history}
 use Rattle.record_rule.specs.Notes.{AllUntracked, AllShown, AreNotes, ReachesTo, NoneShownLater}
 use Rattle.record_rule.specs.Steps.{IsNew, IsKept, Leaves}
@@ -127,7 +126,7 @@ module _ {S : Type 0} (tree_of : S → Node) (fits : S → Type 0) where
   some_fits None t k = tt
   some_fits (Some x) t k = k.0
 
-  fits_of : (c : Claim) (state : Rattle.cordz_core.specs.declared.slot.SlotState.SlotState) (s stamp at : ℕ) (live : Bool) (notes : List Noted) (r : Rep S) → IsSlot tree_of fits c state s stamp at live notes r → MatchOption r.hold ⊤ fits
+  pub fits_of : (c : Claim) (state : Rattle.cordz_core.specs.declared.slot.SlotState.SlotState) (s stamp at : ℕ) (live : Bool) (notes : List Noted) (r : Rep S) → IsSlot tree_of fits c state s stamp at live notes r → MatchOption r.hold ⊤ fits
   fits_of Nothing state s stamp at live notes r (inl k) = none_fits r.hold k.1
   fits_of Nothing state s stamp at live notes r (inr k) = some_fits r.hold k.2.2.newest.tree k.2.2.share
   fits_of (Promised own) state s stamp at live notes r k = none_fits r.hold k.5

@@ -1,4 +1,5 @@
 pub mod Asking
+pub mod Closed
 pub mod Fresh
 pub mod Opened
 pub mod Owners

@@ -1,11 +1,11 @@
 -- What the owner of a record knows.
-use Rattle.std.specs.Prelude.{◌≡◌, ◌+◌, ℕ, Bool, true, false, List, [], ◌∷◌, Option, Some, None}
+use Rattle.std.specs.Prelude.{◌≡◌, ℕ, Bool, false, List, [], ◌∷◌, Option, Some, None}
 use Rattle.node_forest.specs.Label.{Node}
 use Rattle.record_rule.specs.declared.values.Note.{Note}
 use Rattle.record_rule.specs.declared.views.Claim.{Claim}
 use Rattle.record_rule.specs.declared.views.Claim.TheVariants.{Nothing, Owned}
 use Rattle.record_rule.specs.declared.views.DeskView.{DeskView}
-use Rattle.record_rule.specs.declared.views.DeskView.TheVariants.{Root, Token, Ticket, Lent}
+use Rattle.record_rule.specs.declared.views.DeskView.TheVariants.{Token, Ticket, Lent}
 use Rattle.record_rule.specs.declared.views.Noted.{Noted}
 use Rattle.record_rule.specs.Notes.{newest_update}
 use Rattle.record_rule.specs.Views.{claiming, showing, token_in}

@@ -1,5 +1,5 @@
 -- What reading a record does.
-use Rattle.std.specs.Prelude.{◌≡◌, ◌≤◌, ℕ, Bool, false, List, [], ◌∷◌, ◌++◌, MatchOption, Option, None}
+use Rattle.std.specs.Prelude.{◌≡◌, ◌≤◌, ℕ, false, [], ◌∷◌, ◌++◌, MatchOption, None}
 use Rattle.node_forest.specs.Label.{Node}
 use Rattle.node_edges.specs.Trees.{IsWellFormed}
 use Rattle.pool_rule.specs.Views.{View, sharing, with_holds}

@@ -1,13 +1,9 @@
 -- What is seen of tickets and of changes.
-use Rattle.std.specs.Prelude.{◌≡◌, ◌+◌, ℕ, Bool, true, false, List, [], ◌∷◌, MatchOption, Option, Some, None}
+use Rattle.std.specs.Prelude.{◌≡◌, ◌+◌, ℕ, Bool, false, List, MatchOption, None}
 use Rattle.std.specs.Bool.{⊤}
-use Rattle.node_forest.specs.Label.{Node}
 use Rattle.turn_desk.specs.Passes.{desk_view, IsIdle, HasTurn}
 use Rattle.turn_desk.specs.Turns.{turn_place, turn_value, taken_value}
 use Rattle.record_rule.specs.declared.values.DeskValue.TheVariants.{Record}
-use Rattle.record_rule.specs.declared.values.Note.{Note}
-use Rattle.record_rule.specs.declared.views.DeskView.{DeskView}
-use Rattle.record_rule.specs.declared.views.DeskView.TheVariants.{Root, Token, Ticket as Owner, Lent}
 use Rattle.record_rule.specs.declared.views.Noted.{Noted}
 use Rattle.record_rule.specs.World.{note_of, is_bare}
 use Rattle.cordz_desk.specs.declared.share.Share.{Share}

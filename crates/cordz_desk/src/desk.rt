@@ -2,6 +2,7 @@
 ghost use Rattle.std.specs.Prelude.{◌≡◌, ◌<◌, ◌≤◌, ◌+◌, ◌^◌, [], length};
 ghost use Rattle.turn_desk.specs.Passes.{desk_places, desk_view, IsOf, IsIdle, IsSamePass, HasTurn};
 ghost use Rattle.turn_desk.specs.Turns.{turn_place, turn_value, taken_value};
+ghost use Rattle.room_reserve.specs.Rooms.{room_of};
 ghost use Rattle.record_rule.specs.Log.{after_deed, made_of};
 ghost use Rattle.record_rule.specs.Steps.{Does, Leaves, Makes, registry_of};
 ghost use Rattle.record_rule.specs.Views.{done_view, token_in, most_actions, IsTokenView, HasDone};
@@ -18,6 +19,7 @@ use crate::share::Share;
 use crate::tokens::Seated;
 use node_pool::Naming;
 use record_rule::{Deed, DeskView};
+use room_reserve::Reserve;
 use std::marker::{Brand, PhantomData};
 use std::sync::Wait;
 use turn_desk::{Desk, Leave, Turn};
@@ -27,12 +29,15 @@ pub struct CordzDesk<P: Naming, D: DeskNaming> {
     pub(crate) desk: Desk<RecordRule<Share<P>>>,
     // The first token. All passes come back to it at the end.
     pub(crate) root: Seated<P>,
+    // Room for the shares that `close` gives.
+    pub(crate) shares: Reserve<Share<P>>,
     pub(crate) of: PhantomData<D>,
     ghost named: { desk.table.shared.table_id ≡ D.desk },
     ghost places: { desk_places desk ≡ 257 },
     ghost rooted: { root.table_id ≡ D.desk },
     ghost idle: { IsIdle root },
     ghost first: { IsRootView (desk_view root) },
+    ghost room: { 257 ≤ room_of shares },
 }
 
 // Which view a token has after its turn, for clauses alone.

@@ -26,6 +26,19 @@ impl Join<DeskView> for Redeeming {
     ghost spent = { Root 0 [] };
 }
 
+// A token comes back to the first one.
+pub(crate) struct Returning;
+
+impl Join<DeskView> for Returning {
+    ghost use Rattle.std.specs.Prelude.{[]};
+    ghost use Rattle.record_rule.specs.declared.views.DeskView.TheVariants.{Root};
+    ghost use Rattle.cordz_desk.specs.Closed.{returning_view};
+
+    ghost both = { returning_view };
+
+    ghost spent = { Root 0 [] };
+}
+
 // A ticket lends what it knows.
 pub(crate) struct Lending;
 

@@ -4,6 +4,7 @@
 
 mod asking;
 mod changes;
+mod closing;
 mod desk;
 mod handing;
 mod list;

@@ -51,7 +51,7 @@ module _ {S : Type 0} (tree_of : S → Node) (fits : S → Type 0) where
   later_records : (values : List (DeskValue S)) (q : Contents) (t : ℕ) → get_elem? (set values 0 (Lists q)) (t + 1) ≡ get_elem? values (t + 1)
   later_records values q t = set_else values 0 (t + 1) (Lists q) (λ e. omega arith)
 
-  free_claim : (c : Claim) (state : SlotState) (s stamp at : ℕ) (live : Bool) (notes : List Noted) (r : Rep S) → state ≡ IsFree → IsSlot tree_of fits c state s stamp at live notes r → (c ≡ Nothing) × (r.hold ≡ None)
+  pub free_claim : (c : Claim) (state : SlotState) (s stamp at : ℕ) (live : Bool) (notes : List Noted) (r : Rep S) → state ≡ IsFree → IsSlot tree_of fits c state s stamp at live notes r → (c ≡ Nothing) × (r.hold ≡ None)
   free_claim Nothing state s stamp at live notes r e (inl k) = (refl, k.1)
   free_claim Nothing state s stamp at live notes r e (inr k) = absurd (let z = sym k.0 ∙ e in cc)
   free_claim (Promised own) state s stamp at live notes r e k = absurd (let z = sym k.0 ∙ e in cc)

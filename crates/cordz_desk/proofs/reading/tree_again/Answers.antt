@@ -1,5 +1,5 @@
 -- What the proof of `tree_again` needs beyond the search.
-use Rattle.std.proofs.Common.{[], ◌∷◌, subst}
+use Rattle.std.proofs.Common.{[], subst}
 use Rattle.node_forest.specs.Label.{Node}
 use Rattle.std.specs.Prelude.{List}
 use Rattle.pool_rule.specs.Trades.{Trades}

@@ -1,9 +1,8 @@
 -- What the proof of `CordzDesk::begin` needs beyond the search.
-use Rattle.std.proofs.Common.{◌≡◌, ◌+◌, ℕ, MatchOption, Option, None, sym, ap, ◌∙◌, subst}
+use Rattle.std.proofs.Common.{◌+◌, ℕ, MatchOption, Option, None, sym, ap, ◌∙◌, subst}
 use Rattle.std.specs.Bool.{⊤}
 use Rattle.turn_desk.specs.Passes.{desk_view}
 use Rattle.record_rule.specs.declared.values.DeskValue.TheVariants.{Record}
-use Rattle.record_rule.specs.declared.views.DeskView.{DeskView}
 use Rattle.record_rule.specs.World.{is_none}
 use Rattle.cordz_desk.specs.declared.share.Share.{Share}
 use Rattle.cordz_desk.specs.Owners.{slot_in, bare_in, notes_in, IsNewestTree}

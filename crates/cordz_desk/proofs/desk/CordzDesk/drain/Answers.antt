@@ -1,5 +1,5 @@
 -- What the proof of `CordzDesk::drain` needs beyond the search.
-use Rattle.std.proofs.Common.{◌≡◌, ◌+◌, None, sym, ap, ◌∙◌, subst}
+use Rattle.std.proofs.Common.{None, sym, ap, ◌∙◌, subst}
 use Rattle.turn_desk.specs.Passes.{desk_view}
 use Rattle.record_rule.specs.declared.values.DeskValue.TheVariants.{Record}
 use Rattle.record_rule.specs.declared.views.Claim.TheVariants.{Emptied}

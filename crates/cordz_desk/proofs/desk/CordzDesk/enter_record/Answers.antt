@@ -1,5 +1,5 @@
 -- What the proof of `CordzDesk::enter_record` needs beyond the search.
-use Rattle.std.proofs.Common.{◌≡◌, ◌+◌, ℕ, sym, ap, ◌∙◌, subst}
+use Rattle.std.proofs.Common.{◌+◌, ℕ, ap, ◌∙◌, subst}
 use mathlib.Core.Option.{some}
 use Rattle.turn_desk.specs.Agreements.{Agreed}
 use Rattle.turn_desk.specs.Passes.{desk_view}

@@ -1,5 +1,5 @@
 -- What the proof of `CordzDesk::fill` needs beyond the search.
-use Rattle.std.proofs.Common.{◌≡◌, ◌+◌, Some, sym, refl, subst}
+use Rattle.std.proofs.Common.{◌≡◌, Some, sym, refl, subst}
 use Rattle.turn_desk.specs.Passes.{desk_view}
 use Rattle.record_rule.specs.declared.values.DeskValue.{DeskValue}
 use Rattle.record_rule.specs.declared.values.DeskValue.TheVariants.{Record}

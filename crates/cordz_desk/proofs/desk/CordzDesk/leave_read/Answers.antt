@@ -1,5 +1,5 @@
 -- What the proof of `CordzDesk::leave_read` needs beyond the search.
-use Rattle.std.proofs.Common.{sym, ap, ◌∙◌, subst}
+use Rattle.std.proofs.Common.{sym, ap, subst}
 use Rattle.turn_desk.specs.Passes.{desk_view}
 use Rattle.record_rule.specs.declared.views.DeskView.{DeskView}
 use Rattle.record_rule.specs.Steps.{Leaves}

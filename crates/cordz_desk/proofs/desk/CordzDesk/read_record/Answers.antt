@@ -1,5 +1,5 @@
 -- What the proof of `CordzDesk::read_record` needs beyond the search.
-use Rattle.std.proofs.Common.{◌≡◌, MatchOption, Option, sym, ap, ◌∙◌, subst}
+use Rattle.std.proofs.Common.{◌≡◌, MatchOption, sym, ap, ◌∙◌, subst}
 use Rattle.std.specs.Bool.{⊤}
 use Rattle.turn_desk.specs.Passes.{desk_view}
 use Rattle.record_rule.specs.Notes.{NoneShownLater}

@@ -1,5 +1,5 @@
 -- What the proof of `CordzDesk::untrack` needs beyond the search.
-use Rattle.std.proofs.Common.{◌≡◌, sym, ap, ◌∙◌, subst}
+use Rattle.std.proofs.Common.{sym, ap, ◌∙◌, subst}
 use Rattle.turn_desk.specs.Passes.{desk_view}
 use Rattle.record_rule.specs.declared.views.Claim.TheVariants.{Owned}
 use Rattle.record_rule.specs.declared.views.Deed.TheVariants.{Unlink, Settle}
