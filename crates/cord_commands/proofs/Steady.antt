@@ -1,0 +1,79 @@
+-- How steady workers follow each other, and what the calls on cords come to.
+use Rattle.std.proofs.Common.{◌≡◌, ◌∙◌, sym, ap, refl, ℕ, ◌+◌, List, [], length, sum_by, Option, Some, None, Result, Ok, Err, arith}
+use Rattle.std.specs.Prelude.{IfOk, IfErr}
+use Rattle.pool_rule.specs.Gains.{no_gain, gain_then}
+use Rattle.pool_rule.specs.Trades.{Trades, SameHolds}
+use Rattle.pool_rule.specs.Views.{View}
+use Rattle.pool_rule.proofs.Gains.{gained-same, gained-then}
+use Rattle.pool_rule.proofs.Trades.{trade, Trades-same}
+use Rattle.cord_value.specs.Views.{CordView, passes_of, nodes_of}
+use Rattle.cord_value.specs.Workers.{Keeps, KeepsCount}
+use Rattle.cord_value.specs.Refusals.{IsBalanced}
+use Rattle.cord_value.specs.declared.refusals.CordError.{CordError}
+use Rattle.cord_commands.specs.Accounts.{trees_of, trees_made, IsSteady}
+
+pub same-holds : (a b c : List _) → SameHolds a b → SameHolds b c → SameHolds a c
+same-holds a b c one two = trade a [] [] c (λ f. omega (arith, one.weighs f, two.weighs f))
+
+pub steady-then : (u v w : View) (a b c : ℕ) → IsSteady u v a b → IsSteady v w b c → IsSteady u w a c
+steady-then u v w a b c one two = record {
+  holds = same-holds u.holds v.holds w.holds one.holds two.holds;
+  grew = record {
+    gain = gain_then one.grew.gain two.grew.gain;
+    is = gained-then one.grew.gain two.grew.gain u v w one.grew.is two.grew.is;
+  };
+  accounts = (let m = one.accounts in let n = two.accounts in omega arith);
+}
+
+-- what lies beside
+pub steady-beside : (v w : View) (n a b : ℕ) → IsSteady v w a b → IsSteady v w (n + a) (n + b)
+steady-beside v w n a b s = record { holds = s.holds; grew = s.grew; accounts = (let m = s.accounts in omega arith) }
+
+-- the same under other names
+pub steady-as : (v w : View) (a b c d : ℕ) → a ≡ c → b ≡ d → IsSteady v w a b → IsSteady v w c d
+steady-as v w a b c d e f s = record { holds = s.holds; grew = s.grew; accounts = (let m = s.accounts in omega arith) }
+
+pub same-steady : (v w : View) (n : ℕ) → w ≡ v → IsSteady v w n n
+same-steady v w n e = record {
+  holds = Trades-same v.holds w.holds (ap (λ (z : View). z.holds) e);
+  grew = record { gain = no_gain; is = gained-same v w e };
+  accounts = (let m = ap (λ (z : View). z.made) e in let n = ap (λ (z : View). z.ended) e in omega arith);
+}
+
+-- nothing was done
+pub stay-steady : (v w : View) (a b : ℕ) → w ≡ v → b ≡ a → IsSteady v w a b
+stay-steady v w a b e f = steady-as v w a a a b refl (sym f) (same-steady v w a e)
+
+pub keeps-steady : (limit : ℕ) (numbers : List ℕ) (new gone before after : ℕ) (v w : View) → Keeps limit numbers new gone v w → new + before ≡ gone + after → IsSteady v w before after
+keeps-steady limit numbers new gone before after v w k even = record {
+  holds = k.holds;
+  grew = record { gain = k.gain; is = k.gained };
+  accounts = (let m = ap (λ (z : View). z.made) k.gained in let n = ap (λ (z : View). z.ended) k.gained in let p = k.made in let q = k.ended in omega arith);
+}
+
+pub balanced-steady : (limit : ℕ) (x : CordError) (v w : View) (n : ℕ) → IsBalanced limit x v w → IsSteady v w n n
+balanced-steady limit x v w n b = record {
+  holds = b.holds;
+  grew = record { gain = b.gain; is = b.gained };
+  accounts = (let m = ap (λ (z : View). z.made) b.gained in let n = ap (λ (z : View). z.ended) b.gained in let p = b.ended in omega arith);
+}
+
+-- a cord that was made, or refused
+pub made-steady : (limit : ℕ) (v w : View) (r : Result CordView CordError) → IfOk r (λ c. KeepsCount limit (nodes_of c.tree) (passes_of c.tree) 0 v w) → IfErr r (λ x. IsBalanced limit x v w) → IsSteady v w 0 (trees_made r)
+made-steady limit v w (Ok c) k b = keeps-steady limit k.numbers (passes_of c.tree) 0 0 (trees_of c) v w k.keeps (omega arith)
+made-steady limit v w (Err x) k b = balanced-steady limit x v w 0 b
+
+pub copied-steady : (limit : ℕ) (v w : View) (r : Result CordView CordError) → IfOk r (λ c. Keeps limit [] (passes_of c.tree) 0 v w) → IfErr r (λ x. IsBalanced limit x v w) → IsSteady v w 0 (trees_made r)
+copied-steady limit v w (Ok c) k b = keeps-steady limit [] (passes_of c.tree) 0 0 (trees_of c) v w k (omega arith)
+copied-steady limit v w (Err x) k b = balanced-steady limit x v w 0 b
+
+-- a cord is made, and then it takes its place
+pub made-then : (u v w : View) (t a b : ℕ) → IsSteady u v 0 a → IsSteady v w (t + a) b → IsSteady u w t b
+made-then u v w t a b one two = record {
+  holds = same-holds u.holds v.holds w.holds one.holds two.holds;
+  grew = record {
+    gain = gain_then one.grew.gain two.grew.gain;
+    is = gained-then one.grew.gain two.grew.gain u v w one.grew.is two.grew.is;
+  };
+  accounts = (let m = one.accounts in let n = two.accounts in omega arith);
+}

@@ -1,0 +1,5 @@
+-- The definitions of this crate.
+pub mod Views
+pub mod Accounts
+pub mod Answers
+pub mod Texts

@@ -1,0 +1,95 @@
+//! Commands that change the cord of a name.
+ghost use Rattle.std.specs.Prelude.{◌≡◌, ◌≤◌, length, Err, IfOk, OnErr};
+ghost use Rattle.cord_value.specs.declared.refusals.CordError.TheVariants.{Memory};
+ghost use Rattle.cord_commands.specs.Accounts.{trees_in, IsSteady};
+ghost use Rattle.cord_commands.specs.Answers.{IsAnswerTo};
+ghost use Rattle.cord_commands.specs.Views.{AreSame};
+
+use crate::answer::{Answer, done, refusal, told, unset};
+use crate::edits::{Edit, apply};
+use crate::lending::{put_back, take_out};
+use crate::texts::TextBytes;
+use cord_port::Releaser;
+use cord_value::{Cord, CordError};
+use node_pool::{Naming, Pool, Side, Worker};
+use ordered_names::Names;
+use plain_cord::{Reply, Text};
+use std::alloc::{AllocError, Global};
+
+/// The answer to a change.
+pub fn changed(done_or_not: Result<(), CordError>) -> Result<Answer, AllocError>
+    ensures answer { IfOk result (λ answer. IsAnswerTo done_or_not answer) }
+    ensures memory { OnErr result (done_or_not ≡ Err Memory) }
+{
+    match done_or_not {
+        Ok(()) => Ok(done()),
+        Err(error) => refusal(error),
+    }
+}
+
+/// Does a change on the cord of a name, if it was ever set.
+pub fn change<P: Naming, B: Releaser>(
+    alloc: Global,
+    pool: &Pool<P, B>,
+    w: &mut Worker<P>,
+    names: &mut Names<'_, Cord<P>>,
+    a: &[u8],
+    by: Edit<'_>,
+) -> Result<Answer, AllocError>
+    requires room { length w.old.holds ≤ 96 }
+    ensures steady { IsSteady w.old w.new (trees_in names.old) (trees_in names.new) }
+    ensures same { OnErr result (AreSame names.old names.new) }
+{
+    let Some(mut cord) = take_out(names, a) else {
+        return unset(alloc, a);
+    };
+    let edited = apply(alloc, pool, w, &mut cord, by);
+    put_back(names, a, cord);
+    changed(edited)
+}
+
+/// Adds the bytes of a text at a side.
+pub fn add_text<P: Naming, B: Releaser>(
+    alloc: Global,
+    pool: &Pool<P, B>,
+    w: &mut Worker<P>,
+    names: &mut Names<'_, Cord<P>>,
+    a: &[u8],
+    text: &Text,
+    side: Side,
+) -> Result<Answer, AllocError>
+    requires room { length w.old.holds ≤ 96 }
+    ensures steady { IsSteady w.old w.new (trees_in names.old) (trees_in names.new) }
+    ensures same { OnErr result (AreSame names.old names.new) }
+{
+    let bytes = TextBytes::of_text(alloc, text)?;
+    let by = match side {
+        Side::Front => Edit::Prepend(bytes.as_slice()),
+        Side::Back => Edit::Append(bytes.as_slice()),
+    };
+    change(alloc, pool, w, names, a, by)
+}
+
+/// Sets the expected sum of a cord that has bytes.
+pub fn set_sum<P: Naming, B: Releaser>(
+    alloc: Global,
+    pool: &Pool<P, B>,
+    w: &mut Worker<P>,
+    names: &mut Names<'_, Cord<P>>,
+    a: &[u8],
+    value: u32,
+) -> Result<Answer, AllocError>
+    requires room { length w.old.holds ≤ 96 }
+    ensures steady { IsSteady w.old w.new (trees_in names.old) (trees_in names.new) }
+    ensures same { OnErr result (AreSame names.old names.new) }
+{
+    match names.find(a) {
+        None => return unset(alloc, a),
+        Some(cord) => {
+            if cord.len() == 0 {
+                return Ok(told(Reply::NoBytes));
+            }
+        }
+    }
+    change(alloc, pool, w, names, a, Edit::SetSum(value))
+}

@@ -1,0 +1,71 @@
+//! The table of commands.
+ghost use Rattle.std.specs.Prelude.{◌≡◌, ◌≤◌, length, OnErr};
+ghost use Rattle.cord_commands.specs.Accounts.{trees_in, IsSteady};
+ghost use Rattle.cord_commands.specs.Views.{AreSame};
+
+use crate::answer::Answer;
+use crate::asking::size;
+use crate::changing::{add_text, change, set_sum};
+use crate::edits::Edit;
+use crate::joining::join;
+use crate::making::{clear, copy, set_text};
+use cord_port::Releaser;
+use cord_value::Cord;
+use node_pool::{Naming, Pool, Side, Worker};
+use ordered_names::Names;
+use plain_cord::Command;
+use std::alloc::{AllocError, Global};
+
+/// Does a command that needs no cell of the board. Its error is want of memory; the names are then as before.
+pub fn run_command<'a, P: Naming, B: Releaser>(
+    alloc: Global,
+    pool: &Pool<P, B>,
+    w: &mut Worker<P>,
+    names: &mut Names<'a, Cord<P>>,
+    command: &'a Command,
+) -> Result<Answer, AllocError>
+    requires room { length w.old.holds ≤ 96 }
+    ensures steady { IsSteady w.old w.new (trees_in names.old) (trees_in names.new) }
+    ensures same { OnErr result (AreSame names.old names.new) }
+{
+    match command {
+        Command::Let { a, text } => set_text(alloc, pool, w, names, a.as_slice(), text),
+        Command::Copy { a, b } => copy(alloc, pool, w, names, a.as_slice(), b.as_slice()),
+        Command::Clear { a } => clear(alloc, pool, w, names, a.as_slice()),
+        Command::Append { a, text } => {
+            add_text(alloc, pool, w, names, a.as_slice(), text, Side::Back)
+        }
+        Command::Prepend { a, text } => {
+            add_text(alloc, pool, w, names, a.as_slice(), text, Side::Front)
+        }
+        Command::Join { a, b } => {
+            join(
+                alloc,
+                pool,
+                w,
+                names,
+                a.as_slice(),
+                b.as_slice(),
+                Side::Back,
+            )
+        }
+        Command::JoinFront { a, b } => {
+            join(
+                alloc,
+                pool,
+                w,
+                names,
+                a.as_slice(),
+                b.as_slice(),
+                Side::Front,
+            )
+        }
+        Command::CutFront { a, n } => {
+            change(alloc, pool, w, names, a.as_slice(), Edit::CutFront(*n))
+        }
+        Command::CutBack { a, n } => change(alloc, pool, w, names, a.as_slice(), Edit::CutBack(*n)),
+        Command::SetSum { a, value } => set_sum(alloc, pool, w, names, a.as_slice(), *value),
+        Command::Size { a } => size(alloc, names, a.as_slice()),
+        _ => Err(AllocError),
+    }
+}

@@ -1,0 +1,7 @@
+-- What is true of sessions on cords.
+pub mod Chairs
+pub mod Clearings
+pub mod Entries
+pub mod Peeks
+pub mod Seats
+pub mod Told
