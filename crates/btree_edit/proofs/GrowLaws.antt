@@ -1,7 +1,6 @@
 -- A tree opened at its outermost edge, and what bytes beside it make.
 use Rattle.std.proofs.Common.{ℕ, zero, suc, ◌≡◌, ◌+◌, ◌-◌, ◌*◌, ◌<◌, ◌≤◌, min, List, [], ◌∷◌, ◌++◌, length, sum_by, map, refl, sym, ap, subst, ◌∙◌, append-nil, arith}
-use Rattle.std.specs.List.{All, Contains, flat_map}
-use Rattle.std.proofs.lemmas.List.{length-map}
+use Rattle.std.specs.List.{All, flat_map}
 use Rattle.std.proofs.lemmas.List.Sums.{sum_by-append}
 use Rattle.std.proofs.lemmas.List.Elements.{All-append, All-cons, All-nil}
 use Rattle.std.proofs.Math.Nat.{suc-mul}
@@ -13,7 +12,7 @@ use Rattle.node_forest.specs.Forest.{children}
 use Rattle.node_forest.specs.Label.{Node}
 use Rattle.node_edges.specs.Body.{IsBranchOf}
 use Rattle.node_edges.specs.Text.{text}
-use Rattle.node_edges.specs.Trees.{shape_of, IsTreeAt, IsFilled}
+use Rattle.node_edges.specs.Trees.{shape_of, IsTreeAt}
 use Rattle.node_edges.proofs.EdgeLaws.{length-shape, shape-branch}
 use Rattle.node_edges.proofs.TreeLaws.{edges-trees, text-above, branch-tree, text-branch}
 use Rattle.node_edges.proofs.TextLaws.{length-text}

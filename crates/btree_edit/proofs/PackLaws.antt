@@ -4,7 +4,7 @@ use Rattle.std.specs.List.{All, flat_map}
 use Rattle.std.specs.Prelude.{Contains}
 use Rattle.std.proofs.lemmas.List.{length-append, length-map, map-append, get_or_append_left}
 use Rattle.std.proofs.lemmas.List.Sums.{sum_by-append}
-use Rattle.std.proofs.lemmas.List.Elements.{All-map, All-cons, All-nil, Contains-get_or}
+use Rattle.std.proofs.lemmas.List.Elements.{All-map, All-nil, Contains-get_or}
 use Rattle.std.proofs.lemmas.List.Concat.{flat_map-append}
 use Rattle.std.proofs.lemmas.Bool.{eqb-true}
 use mathlib.Core.Logic.{dite}
@@ -16,7 +16,7 @@ use Rattle.node_forest.specs.declared.side.Side.TheVariants.{Front, Back}
 use Rattle.node_forest.specs.Forest.{Forest, empty, grow, node_count, map_forest}
 use Rattle.node_forest.specs.Label.{Label, Node}
 use Rattle.node_edges.specs.Body.{IsBranchOf}
-use Rattle.tree_shapes.specs.Shape.{Form, Shape, level, branch_over, capacities, IsNode, IsTree, IsRootOf, IsRoot}
+use Rattle.tree_shapes.specs.Shape.{Form, Shape, level, branch_over, IsNode, IsTree, IsRootOf, IsRoot}
 use Rattle.node_edges.specs.Text.{text}
 use Rattle.node_edges.specs.Trees.{form_of, shape_of, IsTreeAt, IsWellFormed}
 use Rattle.node_edges.proofs.EdgeLaws.{shape-branch}
@@ -32,7 +32,7 @@ use Rattle.tree_shapes.specs.Nodes as shapes
 use Rattle.tree_shapes.specs.Nodes.{IsLeaf}
 use Rattle.tree_shapes.proofs.NodeLaws.{packed-twice}
 use Rattle.tree_shapes.proofs.GrowthLaws.{length-placed, All-placed}
-use Rattle.tree_shapes.proofs.PieceLaws.{pieces-none, pieces-one, pieces-many, IsPiece, all-pieces}
+use Rattle.tree_shapes.proofs.PieceLaws.{pieces-one, pieces-many}
 use Rattle.tree_shapes.proofs.RoomLaws.{most-some, room-one, room-wrapped, laid-group, laid-nil, packed-room, room-outside_placed, with_all-rooted, with_all-lifted, with_all-level}
 use Rattle.btree_node.proofs.WidthLaws.{most-none}
 use Rattle.btree_node.proofs.ListLaws.{map-placed}

@@ -1,5 +1,5 @@
 -- What the calls that add flats and trees leave a worker with, one after another.
-use Rattle.std.proofs.Common.{ℕ, ◌≡◌, ◌+◌, ◌≤◌, List, [], ◌∷◌, ◌++◌, length, sum_by, refl, sym, ap, subst, ◌∙◌, get_or, arith}
+use Rattle.std.proofs.Common.{ℕ, ◌≡◌, ◌+◌, ◌≤◌, List, [], ◌∷◌, ◌++◌, length, sum_by, refl, ap, subst, ◌∙◌, arith}
 use Rattle.std.specs.List.{All}
 use Rattle.std.specs.Prelude.{Result, Ok, Err, IfOk, IfErr, Contains}
 use Rattle.std.proofs.lemmas.List.{length-append}
@@ -9,19 +9,17 @@ use Rattle.node_forest.specs.declared.side.Side.{Side}
 use Rattle.node_forest.specs.declared.side.Side.TheVariants.{Front, Back}
 use Rattle.node_forest.specs.Forest.{node_count}
 use Rattle.node_forest.specs.Label.{Node, number}
-use Rattle.pool_rule.specs.Gains.{no_gain, Gained}
 use Rattle.pool_rule.specs.Trades.{Trades, SameHolds, HasHolds, IsWithin, itself, below}
 use Rattle.pool_rule.specs.Views.{View, sharing}
 use Rattle.pool_rule.proofs.Trades.{trade}
 use Rattle.node_pool.specs.Finishes.{IsFinished}
 use Rattle.node_pool.specs.Refusals.{IsCause, IsNoted, IsOfNoHeight}
 use Rattle.node_pool.specs.declared.refusals.NodeError.{NodeError}
-use Rattle.node_pool.specs.declared.refusals.NodeError.TheVariants.{NoNumber, HeightLimit, Memory}
 use Rattle.flat_nodes.specs.Flats.{new_flat_node, IsAdded}
 use Rattle.flat_nodes.proofs.Flats as flats
 use Rattle.tree_shapes.specs.Growth.{placed}
 use Rattle.tree_shapes.proofs.RoomLaws.{All-rest_placed, All-one_placed}
-use Rattle.btree_node.specs.Made.{nodes_in, nodes_of_all, GainedNodes, IsMadeFrom, IsRefusedFrom, IsLeftAlone}
+use Rattle.btree_node.specs.Made.{nodes_in, nodes_of_all, GainedNodes, IsMadeFrom, IsRefusedFrom}
 use Rattle.btree_node.proofs.GainLaws.{gained-same, gained-then, gained-shared, gained-finished, cause-within, gained-refused}
 use Rattle.btree_node.proofs.MadeLaws.{made-same, made-spent, took-finished}
 use Rattle.btree_edit.specs.Steps.{IsGrownFrom}

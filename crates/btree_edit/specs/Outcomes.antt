@@ -1,5 +1,5 @@
 -- What became of a tree's root.
-use Rattle.std.specs.Prelude.{ℕ, ◌==◌, Bool, true, false, nat_lt}
+use Rattle.std.specs.Prelude.{◌==◌, Bool, true, false, nat_lt}
 use Rattle.node_forest.specs.Label.{Node}
 use Rattle.node_edges.specs.Trees.{shape_of}
 use Rattle.tree_shapes.specs.Shape.{level}

@@ -138,6 +138,38 @@ fn lifted<P: Naming, B: Releaser>(
     laid_over(alloc, pool, w, side, height, &[], &child, far)
 }
 
+/// A tree with the bytes at a side of this one, cut into pieces from the left. The worker's holds stay, and one of the new tree is added.
+/// After a refusal they are as before; HeightLimit comes just where a new root would have the height 12.
+pub fn with_bytes<P: Naming, B: Releaser>(
+    alloc: Global,
+    pool: &Pool<P, B>,
+    w: &mut Worker<P>,
+    tree: &Edge,
+    bytes: &[u8],
+    side: Side,
+) -> Result<Edge, NodeError>
+    requires stands { Stands w.old.holds tree.now }
+    requires tree { IsTree (shape_of tree.now) }
+    requires filled { IsFilled tree.now }
+    requires some { 0 < length bytes.now }
+    requires short { tree.now.0.length + length bytes.now ≤ 2147483647 }
+    requires room { length w.old.holds ≤ 128 }
+    ensures shape { IfOk result (λ e. shape_of e ≡ with_bytes side (shape_of tree.now) (length bytes.now)) }
+    ensures text { IfOk result (λ e. text e ≡ beside side (text tree.now) bytes.now) }
+    ensures tree { IfOk result (λ e. IsTree (shape_of e)) }
+    ensures filled { IfOk result (λ e. IsFilled e) }
+    ensures made { IfOk result (IsMadeFrom [] (kept_beside side tree.now (length bytes.now)) w.old w.new) }
+    ensures few { IfOk result (λ _. length w.new.taken ≤ length w.old.taken + 25 * piece_count (length bytes.now)) }
+    ensures high { 12 < level (with_bytes side (shape_of tree.now) (length bytes.now)) → result ≡ Err (HeightLimit 12) }
+    ensures refused { IfErr result (λ x. IsLeftAlone P.size (with_bytes side (shape_of tree.now) (length bytes.now)) x w.old w.new) }
+{
+    let base = level_of(tree);
+    let Some(level) = level_beside(tree, side, base, piece_count(bytes.len())) else {
+        return Err(NodeError::HeightLimit { height: 12 });
+    };
+    lifted(alloc, pool, w, tree, side, base, level, bytes)
+}
+
 /// Adds the bytes at a side of the tree, cut into pieces from the left; none changes nothing. The root's hold becomes one of the new
 /// root. After a refusal the worker's holds and the root are as before; HeightLimit comes just where a new root would have the height 12.
 pub fn add_bytes<P: Naming, B: Releaser>(
@@ -166,11 +198,7 @@ pub fn add_bytes<P: Naming, B: Releaser>(
     if bytes.is_empty() {
         return Ok(());
     }
-    let base = level_of(root);
-    let Some(level) = level_beside(root, side, base, piece_count(bytes.len())) else {
-        return Err(NodeError::HeightLimit { height: 12 });
-    };
-    match lifted(alloc, pool, w, root, side, base, level, bytes) {
+    match with_bytes(alloc, pool, w, root, bytes, side) {
         Ok(made) => {
             pool.finish(w, root);
             *root = made;

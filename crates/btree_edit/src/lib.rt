@@ -8,5 +8,5 @@ mod packing;
 mod widths;
 
 pub use edge::{Outcome, add_edge};
-pub use growing::add_bytes;
+pub use growing::{add_bytes, with_bytes};
 pub use packing::from_pieces;

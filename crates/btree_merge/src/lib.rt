@@ -3,4 +3,4 @@
 
 mod merging;
 
-pub use merging::merge_trees;
+pub use merging::{merge_trees, merged};

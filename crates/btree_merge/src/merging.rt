@@ -23,8 +23,9 @@ fn across(side: Side) -> Side
     }
 }
 
-/// The two trees merged: the lower one is added to the other. The worker's holds stay, and one of the new tree is added.
-fn merged<P: Naming, B: Releaser>(
+/// The two trees merged: the lower one is added to the other. The worker's holds stay, and one of the new tree is added; HeightLimit comes
+/// just where a new root would have the height 12.
+pub fn merged<P: Naming, B: Releaser>(
     alloc: Global,
     pool: &Pool<P, B>,
     w: &mut Worker<P>,

@@ -1,8 +1,9 @@
 -- What a reading's chunk is within its text.
 use Rattle.std.proofs.Common.{ℕ, ◌≡◌, ◌+◌, ◌<◌, ◌≤◌, ◌⊎◌, inl, inr, List, [], length, refl, sym, ap, subst, ◌∙◌, drop, arith, Option, Some, None, Bool}
-use Rattle.std.specs.Prelude.{if◌then◌else◌}
+use Rattle.std.specs.Prelude.{if◌then◌else◌, min, take, ◌∷◌}
 use Rattle.std.proofs.lemmas.Bool.{cases_lt, lt-ltb, le-ltb}
-use Rattle.std.proofs.lemmas.List.{length-drop, drop-drop}
+use Rattle.std.proofs.lemmas.List.{length-drop, length-take, drop-drop, take-take, take_min}
+use Rattle.std.proofs.Math.Seq.{take-length}
 use Rattle.std.proofs.Math.ListN.{drop_of_length-le}
 use Rattle.node_forest.specs.Label.{Node}
 use Rattle.tree_shapes.specs.Shape.{level}
@@ -12,7 +13,8 @@ use Rattle.chunk_reader.specs.Readings.{Reading, IsReadable, left, way_of, rest_
 use Rattle.chunk_reader.specs.declared.chunks.Source.{Source}
 use Rattle.chunk_reader.specs.declared.chunks.Source.TheVariants.{Bytes, Tree}
 use Rattle.chunk_reader.specs.Sources.{reading_of, KeepsWay, IsReader}
-use Rattle.chunk_reader.proofs.RestLaws.{rest-some, rest-few}
+use Rattle.chunk_reader.specs.Places.{rest_at}
+use Rattle.chunk_reader.proofs.RestLaws.{rest-some, rest-few, rest-next}
 use Rattle.chunk_reader.proofs.WayLaws.{stay}
 
 -- within the text, and at its end
@@ -54,6 +56,35 @@ none-by r is (inr end) none = drop_of_length-le r.bytes end
 -- where there is none, nothing is left
 pub nothing-left : (r : Reading) → IsReadable r.tree r.bytes → length (chunk_of r) ≡ 0 → left r ≡ []
 nothing-left r is none = none-by r is (cases_lt r.at (length r.bytes)) none
+
+next-by : (tree : Option Node) (bytes : List ℕ) (at : ℕ) → IsReadable tree bytes → at < length bytes → rest_of tree bytes at ≡ take (length (rest_of tree bytes at)) (drop at bytes)
+next-by None bytes at is lt = sym (take-length (drop at bytes))
+next-by (Some e) bytes at is lt =
+    let size : length bytes ≡ e.0.length = ap length (sym is.2) ∙ length-text (level (shape_of e)) e is.0 in
+    rest-next (level (shape_of e)) e at is.0 (omega (arith, lt, size)) ∙ ap (λ (bs : List ℕ). take (length (rest_at (level (shape_of e)) e at)) (drop at bs)) is.2
+
+chunk-by : (r : Reading) → IsReadable r.tree r.bytes → (r.at < length r.bytes) ⊎ (length r.bytes ≤ r.at) → chunk_of r ≡ take (length (chunk_of r)) (left r)
+chunk-by r is (inl lt) = subst (λ (c : List ℕ). c ≡ take (length c) (left r)) (sym (chunk-inside r lt)) (next-by r.tree r.bytes r.at is lt)
+chunk-by r is (inr end) = subst (λ (c : List ℕ). c ≡ take (length c) (left r)) (sym (chunk-end r end)) refl
+
+-- a chunk is what comes next, and so is what a reading takes of it
+pub chunk-next : (r : Reading) → IsReadable r.tree r.bytes → chunk_of r ≡ take (length (chunk_of r)) (left r)
+chunk-next r is = chunk-by r is (cases_lt r.at (length r.bytes))
+
+pub taken-next : (r : Reading) (n : ℕ) (bytes : List ℕ) → IsReadable r.tree r.bytes → bytes ≡ take n (chunk_of r) → bytes ≡ take (length bytes) (left r)
+taken-next r n bytes is took =
+    let c = chunk_of r in
+    let m = min n (length c) in
+    let few : length bytes ≡ m = ap length took ∙ length-take n c in
+    took ∙ (sym (take_min n c) ∙ (ap (take m) (chunk-next r is) ∙ (take-take m (length c) (left r) (omega arith) ∙ ap (λ (k : ℕ). take k (left r)) (sym few))))
+
+pub chunk-next-of : (r : Reading) (bytes : List ℕ) → IsReadable r.tree r.bytes → bytes ≡ chunk_of r → bytes ≡ take (length bytes) (left r)
+chunk-next-of r bytes is same = subst (λ (c : List ℕ). c ≡ take (length c) (left r)) (sym same) (chunk-next r is)
+
+-- there is a chunk where something is left
+pub chunk-some : (r : Reading) (bytes : List ℕ) → IsReadable r.tree r.bytes → bytes ≡ chunk_of r → 0 < length (left r) → 0 < length bytes
+chunk-some r [] is same more = absurd (omega (arith, more, ap length (nothing-left r is (ap length (sym same)))))
+chunk-some r (x ∷ xs) is same more = omega arith
 
 rest-on : (tree : Option Node) (bytes : List ℕ) (at n : ℕ) → IsReadable tree bytes → at < length bytes → n < length (rest_of tree bytes at) → rest_of tree bytes (at + n) ≡ drop n (rest_of tree bytes at)
 rest-on None bytes at n is lt few = sym (drop-drop n at bytes)

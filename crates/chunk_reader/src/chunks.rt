@@ -1,9 +1,9 @@
 //! A reading of a tree, or of bytes.
-ghost use Rattle.std.specs.Prelude.{◌≡◌, ◌≤◌, None, Some, length, map};
+ghost use Rattle.std.specs.Prelude.{◌≡◌, ◌≤◌, ◌<◌, None, Some, length, map, take};
 ghost use Rattle.tree_shapes.specs.Shape.{level};
 ghost use Rattle.node_edges.specs.Text.{text};
 ghost use Rattle.node_edges.specs.Trees.{shape_of, IsTreeAt, IsWellFormed};
-ghost use Rattle.chunk_reader.specs.Readings.{ReadsSome, path_of, chunk_of, passed};
+ghost use Rattle.chunk_reader.specs.Readings.{ReadsSome, path_of, chunk_of, left, passed};
 ghost use Rattle.chunk_reader.specs.Stops.{edge_in};
 ghost use Rattle.node_edges.specs.Roots.{below_sum};
 
@@ -107,7 +107,9 @@ impl<'a> Chunks<'a> {
 
     /// The next bytes of the present chunk, at most `n`. There are none only at the end, or for 0.
     pub fn read(&mut self, n: usize) -> &'a [u8]
-        ensures { ReadsSome n self.old self.new result }
+        ensures read { ReadsSome n self.old self.new result }
+        ensures next { result.now ≡ take (length result.now) (left self.old) }
+        ensures some { 0 < n → 0 < length (left self.old) → 0 < length result.now }
     {
         let chunk = self.chunk;
         if n < chunk.len() {

@@ -1,5 +1,8 @@
 -- The lemmas of this crate.
-pub mod MergeLaws
 pub mod OrderLaws
+pub mod MarkLaws
+pub mod MergeLaws
 pub mod KeptLaws
 pub mod SampleRuns
+pub mod AnswerLaws
+pub mod AloneLaws

@@ -16,6 +16,7 @@ use Rattle.cord_runs.specs.Alone.{AllAlone, size_of, StepsAlone, RunsAlone}
 use Rattle.cord_runs.specs.Orders.{tagged, rest_of, upto, beyond, run_order}
 use Rattle.cord_runs.specs.Runs.{acts, lines_at, IsRun}
 use Rattle.cord_runs.specs.Stamps.{stamps_in, AreDifferent}
+use Rattle.cord_runs.proofs.MarkLaws.{StepsUnmarked, StepsUnsampled, no-stamps}
 
 length_set : {A : Type 0} (xs : List A) (i : ℕ) (a : A) → length (set xs i a) ≡ length xs
 length_set [] i a = refl
@@ -126,11 +127,19 @@ module _ {R : Type 0} (options : Options) where
   step-before p states cells x now mid rest es wide legal s then =
       (record { state = mid; cells = cells_after cells now; entries = map (entry_of size_of) now }, s.steps cells wide legal, (es, refl, then))
 
+  plays-alone : (boxes : ℕ → ℕ) (sessions : List (List Request)) (books : List (List (Answer R))) (log : List (Deed Cord)) → IsLegal empty_cells log → ((p : ℕ) → (after : Session) × RunsAlone options p (new_session (boxes p)) (lines_at sessions books p) (of_session p log) after)
+      → Plays options (λ p. new_session (boxes p)) empty_cells (run_order acts (length sessions) (lines_at sessions books) (map (entry_of size_of) log)) (map (entry_of size_of) log)
+  plays-alone boxes sessions books log legal alone =
+      goes-alone size_of acts (StepsAlone options) (Plays options) (λ p s x now after step. step.acted) (λ p s x now after step. step.short) (λ states cells. refl) step-before
+      log (length sessions) (lines_at sessions books) (λ p. new_session (boxes p)) empty_cells refl legal alone
+
   pub run-alone : (boxes : ℕ → ℕ) (sessions : List (List Request)) (books : List (List (Answer R))) (log : List (Deed Cord)) → map length books ≡ map length sessions → AreDifferent (stamps_in books) → IsLegal empty_cells log
       → ((p : ℕ) → (after : Session) × RunsAlone options p (new_session (boxes p)) (lines_at sessions books p) (of_session p log) after) → IsRun options boxes sessions books (map (entry_of size_of) log)
-  run-alone boxes sessions books log answered stamps legal alone = record {
-    answered = answered;
-    plays = goes-alone size_of acts (StepsAlone options) (Plays options) (λ p s x now after step. step.acted) (λ p s x now after step. step.short) (λ states cells. refl) step-before
-        log (length sessions) (lines_at sessions books) (λ p. new_session (boxes p)) empty_cells refl legal alone;
-    stamps = stamps;
-  }
+  run-alone boxes sessions books log answered stamps legal alone = record { answered = answered; plays = plays-alone boxes sessions books log legal alone; stamps = stamps }
+
+  -- where no tree is to be sampled, no stamp is told
+  pub run-unsampled : StepsUnmarked R → StepsUnsampled R → (boxes : ℕ → ℕ) (sessions : List (List Request)) (books : List (List (Answer R))) (log : List (Deed Cord)) → options.stride ≡ 0 → map length books ≡ map length sessions → IsLegal empty_cells log
+      → ((p : ℕ) → (after : Session) × RunsAlone options p (new_session (boxes p)) (lines_at sessions books p) (of_session p log) after) → IsRun options boxes sessions books (map (entry_of size_of) log)
+  run-unsampled unmarked_steps unsampled_steps boxes sessions books log none answered legal alone =
+      let plays = plays-alone boxes sessions books log legal alone in
+      record { answered = answered; plays = plays; stamps = no-stamps unmarked_steps unsampled_steps options none boxes sessions books (map (entry_of size_of) log) answered plays }

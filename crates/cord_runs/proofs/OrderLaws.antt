@@ -78,12 +78,19 @@ module _ {L : Type 0} where
         either true ys more = (all.0, more)
         either false ys more = more
 
--- where there are as many answers as requests, what holds of the lines holds of each answer
-pub of-answer : {X Y : Type 0} (P : Y → Type 0) (xs : List X) (ys : List Y) → length ys ≡ length xs → AllByRecursion (λ x. P x.1) (zip xs ys) → (k : ℕ) (y : Y) → k < length ys → slice_index_or ys k y ≡ y → P y
-of-answer P xs [] same all k y below is = absurd (omega arith)
-of-answer P [] (z ∷ zs) same all k y below is = absurd (cc)
-of-answer P (x ∷ xs) (z ∷ zs) same all zero y below is = subst P is all.0
-of-answer P (x ∷ xs) (z ∷ zs) same all (suc k) y below is = of-answer P xs zs (cc) all.1 k y (omega arith) is
+-- where there are as many answers as requests, what holds of the lines holds of the answers
+pub of-answers : {X Y : Type 0} (P : Y → Type 0) (xs : List X) (ys : List Y) → length ys ≡ length xs → AllByRecursion (λ x. P x.1) (zip xs ys) → AllByRecursion P ys
+of-answers P xs [] same all = tt
+of-answers P [] (y ∷ ys) same all = absurd (cc)
+of-answers P (x ∷ xs) (y ∷ ys) same all = (all.0, of-answers P xs ys (cc) all.1)
+
+pub of-contained : {Y : Type 0} (P : Y → Type 0) (ys : List Y) → AllByRecursion P ys → (y : Y) → Contains ys y → P y
+of-contained {Y} P ys all y contains = at ys all contains.0 contains.1 contains.2
+  where
+    at : (zs : List Y) → AllByRecursion P zs → (k : ℕ) → k < length zs → slice_index_or zs k y ≡ y → P y
+    at [] all k below is = absurd (omega arith)
+    at (z ∷ zs) all zero below is = subst P is all.0
+    at (z ∷ zs) all (suc k) below is = at zs all.1 k (omega arith) is
 
 pub as-many : {X Y : Type 0} (xs : List (List X)) (ys : List (List Y)) → map length ys ≡ map length xs → (p : ℕ) → length (slice_index_or ys p []) ≡ length (slice_index_or xs p [])
 as-many [] [] same p = refl
@@ -100,6 +107,14 @@ index-past (x ∷ xs) (suc p) d past = index-past xs p d (omega arith)
 pub order-lines : {R : Type 0} (sessions : List (List Request)) (books : List (List (Answer R))) (history : List Entry) (p : ℕ) → lines_of p (run_order acts (length sessions) (lines_at sessions books) history) ≡ lines_at sessions books p
 order-lines sessions books history p =
     of-order acts history p (length sessions) (lines_at sessions books) (λ past. ap (λ (z : List Request). zip z (slice_index_or books p [])) (index-past sessions p [] past))
+
+-- what holds of each answer of a run's order holds of those of each book
+pub of-book : {R : Type 0} (P : Answer R → Type 0) (sessions : List (List Request)) (books : List (List (Answer R))) (history : List Entry) → map length books ≡ map length sessions → AllByRecursion (Tagged (λ (x : Line R). P x.1)) (run_order acts (length sessions) (lines_at sessions books) history) → (p : ℕ)
+    → AllByRecursion P (slice_index_or books p [])
+of-book {R} P sessions books history same all p =
+    let Q : Line R → Type 0 = λ x. P x.1 in
+    of-answers P (slice_index_or sessions p []) (slice_index_or books p []) (as-many sessions books same p)
+    (subst (AllByRecursion Q) (order-lines sessions books history p) (each-of Q p (run_order acts (length sessions) (lines_at sessions books) history) all))
 
 -- ---- of a run over trees
 abbrev pub AllShow : Type 0 → Type 0
@@ -118,6 +133,5 @@ module _ {R : Type 0} (show : AllShow R) (options : Options) where
   pub run-shows : (boxes : ℕ → ℕ) (sessions : List (List Request)) (books : List (List (Answer R))) (history : List Entry) (p : ℕ) (answer : Answer R) → IsRun options boxes sessions books history → Contains (slice_index_or books p []) answer → ShowsCause options answer
   run-shows boxes sessions books history p answer run contains =
       let xs = run_order acts (length sessions) (lines_at sessions books) history in
-      let all = each-of Shows p xs (played-show xs (λ q. new_session (boxes q)) empty_cells history run.plays) in
-      of-answer (ShowsCause options) (slice_index_or sessions p []) (slice_index_or books p []) (as-many sessions books run.answered p)
-      (subst (AllByRecursion Shows) (order-lines sessions books history p) all) contains.0 answer contains.1 contains.2
+      let all = played-show xs (λ q. new_session (boxes q)) empty_cells history run.plays in
+      of-contained (ShowsCause options) (slice_index_or books p []) (of-book (ShowsCause options) sessions books history run.answered all p) answer contains

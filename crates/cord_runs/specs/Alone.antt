@@ -1,9 +1,9 @@
 -- A session by itself: its lines, and what it did on the board, whatever the others do.
-use Rattle.std.specs.Prelude.{◌≡◌, ℕ, ◌⊎◌, List, [], ◌∷◌, ◌++◌, map, length}
+use Rattle.std.specs.Prelude.{◌≡◌, ℕ, ◌+◌, ◌⊎◌, List, [], ◌∷◌, ◌++◌, map, length}
 use Rattle.plain_cord.specs.declared.deed.Deed.{Deed}
 use Rattle.plain_cord.specs.Alone.{is_some_action}
 use Rattle.plain_cord.specs.Deeds.{IsLegal, cells_after, entry_of}
-use Rattle.cord_steps.specs.Cords.{Cord}
+use Rattle.cord_steps.specs.Cords.{Cord, Names}
 use Rattle.cord_steps.specs.Runs.{Line}
 use Rattle.cord_steps.specs.Sessions.{Options, Session, Cells}
 use Rattle.cord_steps.specs.Steps.{IsStep}
@@ -31,3 +31,13 @@ pub record StepsAlone {Report : Type 0} (options : Options) (p : ℕ) (s : Sessi
 -- all lines, with what they did in that order
 abbrev pub RunsAlone : {Report : Type 0} → Options → ℕ → Session → List (Line Report) → List (Deed Cord) → Session → Type 0
 RunsAlone options = AllAlone (StepsAlone options)
+
+-- ---- what a session has after an action
+
+-- the same names, name by name
+abbrev pub AreNames : Names → Names → Type 0
+AreNames names others = (a : List ℕ) → names a ≡ others a
+
+-- the session with these names, after one action more
+abbrev pub acted_with : Session → Names → Session
+acted_with s names = record s { names = names; acted = s.acted + 1 }

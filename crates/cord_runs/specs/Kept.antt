@@ -2,7 +2,8 @@
 use Rattle.std.specs.Prelude.{List, [], map, zip}
 use Rattle.plain_cord.specs.declared.script.Session.{Session}
 use Rattle.plain_cord.specs.declared.reply.Book.{Book}
-use Rattle.cord_steps.specs.Answers.{Request, Answer}
+use Rattle.plain_cord.specs.declared.reply.Reply.TheVariants as replies
+use Rattle.cord_steps.specs.Answers.{Request, Answer, Told}
 use Rattle.cord_steps.specs.Runs.{Line, kept}
 
 -- the lines of each session
@@ -21,3 +22,12 @@ kept_sessions sessions books = map kept_session (all_lines sessions books)
 
 abbrev pub kept_books : {Report : Type 0} → List (List Request) → List (List (Answer Report)) → List Book
 kept_books sessions books = map kept_book (all_lines sessions books)
+
+-- the answer but for what is told as on byte strings
+abbrev pub untold : {Report : Type 0} → Answer Report → Answer Report
+untold (Told reply) = Told replies.None
+untold answer = answer
+
+-- so a list of books tells which requests were refused for want of something, and what the profiler says
+abbrev pub all_untold : {Report : Type 0} → List (List (Answer Report)) → List (List (Answer Report))
+all_untold books = map (λ book. map untold book) books

@@ -1,7 +1,8 @@
 -- The books and the history that sessions over trees may have.
-use Rattle.std.specs.Prelude.{◌≡◌, ℕ, List, [], Bool, false, map, length, zip, slice_index_or}
+use Rattle.std.specs.Prelude.{◌≡◌, ℕ, List, [], Bool, false, None, map, length, zip, slice_index_or}
 use Rattle.plain_cord.specs.declared.history.Entry.{Entry}
 use Rattle.plain_cord.specs.Deeds.{empty_cells}
+use Rattle.plain_cord.specs.Outcomes.{asked_action}
 use Rattle.plain_cord.specs.RunOrders as bytes
 use Rattle.cord_steps.specs.Answers.{Request, Plain, Answer, Told}
 use Rattle.cord_steps.specs.Runs.{Line, new_session, Plays}
@@ -13,6 +14,11 @@ use Rattle.cord_runs.specs.Stamps.{stamps_in, AreDifferent}
 abbrev pub acts : {Report : Type 0} → Line Report → Bool
 acts (Plain command, Told reply) = bytes.acts command reply
 acts _ = false
+
+-- the request asks for nothing on the board
+abbrev pub IsApart : Request → Type 0
+IsApart (Plain command) = asked_action command ≡ None
+IsApart _ = Unit {0}
 
 -- the lines of the session p, of these sessions' requests and these books of answers
 abbrev pub lines_at : {Report : Type 0} → List (List Request) → List (List (Answer Report)) → ℕ → List (Line Report)

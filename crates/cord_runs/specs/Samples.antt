@@ -1,8 +1,9 @@
 -- Two sessions that share a cell, and their books and histories, by which the definitions are tried.
 use Rattle.std.specs.Prelude.{ℕ, List, [], ◌∷◌, Option, Some, None}
-use Rattle.plain_cord.specs.declared.script.Command.TheVariants.{Let, SetSum, Put, Take, Peek}
+use Rattle.plain_cord.specs.declared.script.Command.TheVariants as commands
+use Rattle.plain_cord.specs.declared.script.Command.TheVariants.{Let, SetSum}
 use Rattle.plain_cord.specs.declared.history.Act.{Act}
-use Rattle.plain_cord.specs.declared.history.Act.TheVariants as acts
+use Rattle.plain_cord.specs.declared.history.Act.TheVariants.{Put}
 use Rattle.plain_cord.specs.declared.history.Entry.{Entry}
 use Rattle.plain_cord.specs.declared.reply.Reply.TheVariants as replies
 use Rattle.cord_steps.specs.Answers.{Request, Plain, Answer, Told, Cords}
@@ -11,15 +12,15 @@ use Rattle.cord_runs.specs.Runs.{IsRun}
 
 -- the first sets a name and puts its cord into the cell 0
 abbrev pub putting : List Request
-putting = Plain (Let x (letters 20)) ∷ Plain (Put x 0) ∷ []
+putting = Plain (Let x (letters 20)) ∷ Plain (commands.Put x 0) ∷ []
 
 -- the second takes it and expects a sum of it
 abbrev pub taking : List Request
-taking = Plain (Take 0 x) ∷ Plain (SetSum x 7) ∷ []
+taking = Plain (commands.Take 0 x) ∷ Plain (SetSum x 7) ∷ []
 
 -- or it asks for a copy twice
 abbrev pub peeking : List Request
-peeking = Plain (Peek 0 x) ∷ Plain (Peek 0 x) ∷ []
+peeking = Plain (commands.Peek 0 x) ∷ Plain (commands.Peek 0 x) ∷ []
 
 -- the new tree has the record 1
 abbrev pub put_book : List (Answer ℕ)
@@ -42,7 +43,7 @@ abbrev pub first_action : ℕ → Act → Option ℕ → Option ℕ → Entry
 first_action p act came was = record { session = p; place = 1; act = act; cell = 0; came = came; was = was }
 
 abbrev pub put_entry : Entry
-put_entry = first_action 0 acts.Put (Some 20) None
+put_entry = first_action 0 Put (Some 20) None
 
 abbrev pub MayRun : List Request → List (Answer ℕ) → List Entry → Type 0
 MayRun second book history = IsRun each_sampled (λ p. 0) (putting ∷ second ∷ []) (put_book ∷ book ∷ []) history

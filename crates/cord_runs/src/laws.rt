@@ -7,24 +7,35 @@ ghost use Rattle.plain_cord.specs.Runs.{IsPlainRun};
 ghost use Rattle.cord_steps.specs.Answers.{Request, Answer};
 ghost use Rattle.cord_steps.specs.Causes.{ShowsCause};
 ghost use Rattle.cord_steps.specs.Cords.{Cord};
+ghost use Rattle.cord_steps.specs.Notes.{HasNoMark};
 ghost use Rattle.cord_steps.specs.Runs.{new_session};
 ghost use Rattle.cord_steps.specs.Sessions.{Options, Session};
 ghost use Rattle.cord_runs.specs.Alone.{size_of, RunsAlone};
-ghost use Rattle.cord_runs.specs.Kept.{kept_sessions, kept_books};
+ghost use Rattle.cord_runs.specs.Kept.{kept_sessions, kept_books, all_untold};
 ghost use Rattle.cord_runs.specs.Orders.{lines_of, run_order};
 ghost use Rattle.cord_runs.specs.Runs.{acts, lines_at, IsRun};
 ghost use Rattle.cord_runs.specs.Stamps.{stamps_in, AreDifferent};
 
-use cord_steps::{resource_refusals_show_their_cause, runs_without_refusals_are_plain_runs};
+use cord_steps::{
+    resource_refusals_show_their_cause, runs_without_refusals_are_plain_runs,
+    steps_without_a_stride_have_no_marks,
+};
+use plain_laws::books_are_determined;
 
 /// Sessions that ran by themselves, each with its own actions among those of one list in which each action found what its
-/// cell held, are a run, and that list is its history.
+/// cell held, are a run, and that list is its history. No stamp may be that of two new records, which is so where none is sampled.
 pub fn sessions_alone_make_runs<R>()
-    ensures { (options : Options) (boxes : ℕ → ℕ) (sessions : List (List Request)) (books : List (List (Answer R))) (log : List (Deed_value Cord))
-        → map length books ≡ map length sessions → AreDifferent (stamps_in books) → IsLegal empty_cells log
+    ensures sampled { (options : Options) (boxes : ℕ → ℕ) (sessions : List (List Request)) (books : List (List (Answer R)))
+        (log : List (Deed_value Cord)) → map length books ≡ map length sessions → AreDifferent (stamps_in books) → IsLegal empty_cells log
         → ((p : ℕ) → (after : Session) × RunsAlone options p (new_session (boxes p)) (lines_at sessions books p) (of_session p log) after)
         → IsRun options boxes sessions books (map (entry_of size_of) log) }
-{}
+    ensures unsampled { (options : Options) (boxes : ℕ → ℕ) (sessions : List (List Request)) (books : List (List (Answer R)))
+        (log : List (Deed_value Cord)) → options.stride ≡ 0 → map length books ≡ map length sessions → IsLegal empty_cells log
+        → ((p : ℕ) → (after : Session) × RunsAlone options p (new_session (boxes p)) (lines_at sessions books p) (of_session p log) after)
+        → IsRun options boxes sessions books (map (entry_of size_of) log) }
+{
+    steps_without_a_stride_have_no_marks::<R>();
+}
 
 /// The order of a run has the lines of each session, once each and in their order, whatever the history.
 pub fn run_orders_have_each_line<R>()
@@ -50,4 +61,25 @@ pub fn refusals_in_runs_show_their_cause<R>()
         → ShowsCause options answer }
 {
     resource_refusals_show_their_cause::<R>();
+}
+
+/// In a run whose stride is 0 no answer has a mark.
+pub fn runs_without_a_stride_have_no_marks<R>()
+    ensures { (options : Options) (boxes : ℕ → ℕ) (sessions : List (List Request)) (books : List (List (Answer R))) (history : List Entry_value)
+        (p : ℕ) (answer : Answer R) → options.stride ≡ 0 → IsRun options boxes sessions books history
+        → Contains (slice_index_or books p []) answer → HasNoMark answer }
+{
+    steps_without_a_stride_have_no_marks::<R>();
+}
+
+/// The answers of runs whose stride is 0 follow from the history and from what was refused for want of something or told by the
+/// profiler: whatever pools, limits and boxes, two runs of the same requests that have these have the same answers.
+pub fn answers_follow_from_history_and_refusals<R>()
+    ensures { (options others_options : Options) (boxes others_boxes : ℕ → ℕ) (sessions : List (List Request)) (books others : List (List (Answer R)))
+        (history : List Entry_value) → options.stride ≡ 0 → others_options.stride ≡ 0 → IsRun options boxes sessions books history
+        → IsRun others_options others_boxes sessions others history → all_untold books ≡ all_untold others → books ≡ others }
+{
+    steps_without_a_stride_have_no_marks::<R>();
+    runs_are_plain_runs::<R>();
+    books_are_determined();
 }

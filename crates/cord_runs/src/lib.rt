@@ -2,11 +2,19 @@
 //! sessions that know nothing of each other make one run. Definitions, and laws of them; nothing here runs.
 #![tactic(auto)]
 
+mod alone;
 mod laws;
 mod samples;
 
+pub use alone::{
+    actions_stand_alone, requests_apart_from_the_board_stand_alone, sessions_go_on_alone,
+};
 pub use laws::{
-    refusals_in_runs_show_their_cause, run_orders_have_each_line, runs_are_plain_runs,
+    answers_follow_from_history_and_refusals, refusals_in_runs_show_their_cause,
+    run_orders_have_each_line, runs_are_plain_runs, runs_without_a_stride_have_no_marks,
     sessions_alone_make_runs,
 };
-pub use samples::{refused_peeks_are_no_actions, takes_find_what_was_put_before};
+pub use samples::{
+    kept_lines_are_those_on_byte_strings, refused_peeks_are_no_actions,
+    takes_find_what_was_put_before,
+};

@@ -6,3 +6,4 @@ pub mod CauseLaws
 pub mod RunLaws
 pub mod WholeLaws
 pub mod StayLaws
+pub mod NoteLaws

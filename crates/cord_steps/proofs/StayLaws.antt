@@ -34,7 +34,7 @@ new-none Fresh was = refl
 new-none (Copied _) was = refl
 new-none (Changed _) was = refl
 
-told-none : (m : Manner) → told_note m None ≡ None
+pub told-none : (m : Manner) → told_note m None ≡ None
 told-none Fresh = refl
 told-none (Copied _) = refl
 told-none (Changed true) = refl
@@ -219,11 +219,11 @@ module _ (p : ℕ) (s : Session) (cells : Cells) (all : AreWhole s cells) where
   external-on options a bytes true (Told reply) large small is = external-reply options a bytes reply large small is.1
   external-on options a bytes b _ large small is = all.named
 
-snap-names : {R : Type 0} (s : Session) (answer : Answer R) → (snap_after s answer).names ≡ s.names
+pub snap-names : {R : Type 0} (s : Session) (answer : Answer R) → (snap_after s answer).names ≡ s.names
 snap-names s (Told reply) = refl
 snap-names s _ = refl
 
-unsnap-names : {R : Type 0} (s : Session) (answer : Answer R) → (unsnap_after s answer).names ≡ s.names
+pub unsnap-names : {R : Type 0} (s : Session) (answer : Answer R) → (unsnap_after s answer).names ≡ s.names
 unsnap-names s (Ended deleted) = refl
 unsnap-names s _ = refl
 

@@ -10,3 +10,4 @@ pub mod Causes
 pub mod Runs
 pub mod Samples
 pub mod Whole
+pub mod Notes

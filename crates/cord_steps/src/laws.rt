@@ -9,6 +9,7 @@ ghost use Rattle.plain_cord.specs.Effects.{PlainEffect};
 ghost use Rattle.plain_cord.specs.Runs as plain;
 ghost use Rattle.cord_steps.specs.Answers.{Request, Plain, Answer, Told, IsTold, IsResourceRefusal, unmarked};
 ghost use Rattle.cord_steps.specs.Causes.{ShowsCause};
+ghost use Rattle.cord_steps.specs.Notes.{HaveNoNotes, HasNoMark};
 ghost use Rattle.cord_steps.specs.Runs.{Line, Plays, new_session, kept_lines};
 ghost use Rattle.cord_steps.specs.Boarding.{left};
 ghost use Rattle.cord_steps.specs.Sessions.{Options, Session, Cells, Effect, plain_session, plain_cells, plain_effect};
@@ -60,4 +61,12 @@ pub fn runs_without_refusals_are_plain_runs<R>()
 pub fn steps_keep_cords_whole<R>()
     ensures { (options : Options) (p : ℕ) (s : Session) (cells : Cells) (request : Request) (answer : Answer R) (e : Effect)
         → IsStep options p s cells request answer e → IsWithin request → AreWhole s cells → AreWhole e.state e.cells }
+{}
+
+/// Where the stride is 0 and no cord is sampled, no answer has a mark, and no cord is sampled afterwards.
+pub fn steps_without_a_stride_have_no_marks<R>()
+    ensures answer { (options : Options) (p : ℕ) (s : Session) (cells : Cells) (request : Request) (answer : Answer R) (e : Effect)
+        → options.stride ≡ 0 → IsStep options p s cells request answer e → HaveNoNotes s cells → HasNoMark answer }
+    ensures notes { (options : Options) (p : ℕ) (s : Session) (cells : Cells) (request : Request) (answer : Answer R) (e : Effect)
+        → options.stride ≡ 0 → IsStep options p s cells request answer e → HaveNoNotes s cells → HaveNoNotes e.state e.cells }
 {}

@@ -25,7 +25,7 @@ use Rattle.cord_value.specs.declared.refusals.CordError.{CordError}
 use Rattle.cord_value.specs.declared.refusals.CordError.TheVariants as cord
 use Rattle.cord_value.specs.Refusals.{refusal_of, AreCountsOf, IsMakeRefused, IsMakeUndone, IsBalanced}
 
-one-below : (limit : ℕ) (c : Count) → c.found < limit → AreBelow limit (c ∷ [])
+pub one-below : (limit : ℕ) (c : Count) → c.found < limit → AreBelow limit (c ∷ [])
 one-below limit c less = All-cons (λ (z : Count). z.found < limit) c [] less (All-nil _)
 
 -- ---- kept
@@ -139,6 +139,17 @@ balanced-length limit asked v w same = record {
   gain = no_gain;
   gained = gained-same v w same;
   counts = All-nil _;
+  ended = refl;
+  used = refl;
+  looks = refl;
+}
+
+pub balanced-nothing : (limit : ℕ) (x : CordError) (v : View) → AreCountsOf limit x [] → IsBalanced limit x v v
+balanced-nothing limit x v counts = record {
+  holds = Trades-same v.holds v.holds refl;
+  gain = no_gain;
+  gained = gained-same v v refl;
+  counts = counts;
   ended = refl;
   used = refl;
   looks = refl;

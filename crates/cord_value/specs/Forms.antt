@@ -1,19 +1,17 @@
 -- What is true of the two kinds of cords, and what contracts see of them.
-use Rattle.std.specs.Prelude.{◌≡◌, ◌<◌, ◌≤◌, List, [], ◌∷◌, length, Some, None}
+use Rattle.std.specs.Prelude.{◌≡◌, ◌≤◌, List, [], ◌∷◌, length, Some, None}
 use Rattle.node_forest.specs.Label.{Node}
-use Rattle.tree_shapes.specs.Shape.{IsTree}
 use Rattle.node_edges.specs.Text.{text}
-use Rattle.node_edges.specs.Trees.{shape_of, IsFilled}
+use Rattle.node_edges.specs.Trees.{IsWellFormed}
 use Rattle.cord_value.specs.declared.cord.Form.{Form}
 use Rattle.cord_value.specs.declared.cord.Form.TheVariants.{Inline, Tree}
-use Rattle.cord_value.specs.Views.{CordView}
+use Rattle.cord_value.specs.Views.{CordView, NeedsTree}
 
--- the holds of the pass, and the tree: well formed, of more than 15 bytes, and of no more than a cord may have
+-- the holds of the pass, and the tree: well formed, of more than 15 bytes or with a sum, and of no more than a cord may have
 pub record IsKept (holds : List Node) (root : Node) : Type 0 where
   pub pass : holds ≡ root ∷ []
-  pub tree : IsTree (shape_of root)
-  pub filled : IsFilled root
-  pub long : 15 < root.0.length
+  pub formed : IsWellFormed root
+  pub needed : NeedsTree root.0.length root
   pub short : root.0.length ≤ 2147483647
 
 abbrev pub view_of : {P : Type 0} → Form P → CordView

@@ -3,4 +3,6 @@ pub mod Forms
 pub mod Refusals
 pub mod Views
 pub mod Workers
+pub mod Changes
 pub mod Grown
+pub mod Externals

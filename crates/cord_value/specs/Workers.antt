@@ -1,6 +1,6 @@
 -- What the calls on cords leave a worker with.
 use Rattle.std.specs.Prelude.{ℕ, ◌≡◌, ◌<◌, List, [], length, All}
-use Rattle.pool_rule.specs.Gains.{Gain, Gained}
+use Rattle.pool_rule.specs.Gains.{Gain, no_gain, Gained}
 use Rattle.pool_rule.specs.Notes.{Count}
 use Rattle.pool_rule.specs.Trades.{SameHolds}
 use Rattle.pool_rule.specs.Views.{View}
@@ -21,6 +21,11 @@ pub record Keeps (limit : ℕ) (numbers : List ℕ) (new gone : ℕ) (v w : View
   pub ended : gain.ended ≡ gone
   pub used : gain.used ≡ []
   pub looks : gain.looks ≡ []
+
+-- a tree was left, and a new one came into its pass: numbers were returned, and nothing else was gained
+pub record IsReplaced (v w : View) : Type 0 where
+  pub back : List ℕ
+  pub gained : Gained (record no_gain { returned = back }) v w
 
 -- the same with so many numbers
 pub record KeepsCount (limit count new gone : ℕ) (v w : View) : Type 0 where

@@ -1,5 +1,5 @@
 //! Cords, their bytes and their trees.
-ghost use Rattle.std.specs.Prelude.{◌≡◌, ◌↔◌, ◌+◌, ◌<◌, ◌≤◌, [], ◌∷◌, length, None, IsSome, IsTrue, IfOk, IfErr, IfSome};
+ghost use Rattle.std.specs.Prelude.{◌≡◌, ◌↔◌, ◌⊎◌, ◌+◌, ◌<◌, ◌≤◌, [], ◌∷◌, length, None, IsSome, IsTrue, IfOk, IfErr, IfSome};
 ghost use Rattle.tree_shapes.specs.Cords.{cord_of_bytes};
 ghost use Rattle.tree_shapes.specs.Flats.{new_shape};
 ghost use Rattle.tree_shapes.specs.Shape.{IsTree};
@@ -8,9 +8,10 @@ ghost use Rattle.node_edges.specs.Trees.{shape_of, IsFilled};
 ghost use Rattle.node_pool.specs.Refusals.{IsNoted};
 ghost use Rattle.flat_nodes.specs.Flats.{IsAdded};
 ghost use Rattle.btree_node.specs.Made.{IsMadeFrom, IsRefusedFrom};
+ghost use Rattle.cord_value.specs.Grown.{inline_cord};
 ghost use Rattle.cord_value.specs.Workers.{Keeps, KeepsCount};
 ghost use Rattle.cord_value.specs.Refusals.{IsMakeRefused, IsMakeUndone, IsBalanced};
-ghost use Rattle.cord_value.specs.Views.{IsTreeOf, cord_shape, nodes_of, numbers_of, passes_of};
+ghost use Rattle.cord_value.specs.Views.{IsTreeOf, cord_shape, nodes_of, numbers_of, passes_of, sum_in_cord};
 
 use crate::inline::{MOST_INLINE, inline_of};
 use crate::refusals::CordError;
@@ -22,6 +23,7 @@ use node_edges::{texts_are_as_long_as_edges_say, ways_down_are_short};
 use node_pool::{Edge, Naming, NodeError, Pass, Pool, Worker};
 use std::alloc::Global;
 use std::marker::Model;
+use std::mem;
 
 /// The most bytes of a cord.
 pub(crate) const MOST_BYTES: usize = 2_147_483_647;
@@ -29,8 +31,8 @@ pub(crate) const MOST_BYTES: usize = 2_147_483_647;
 /// The highest capacity of a flat.
 const MOST_IN_A_FLAT: usize = 4083;
 
-/// A list of bytes that is cheap to copy. At most 15 bytes stand inline, and more in a tree, which a pass keeps between calls.
-/// Contracts see its bytes, and its tree where it has one.
+/// A list of bytes that is cheap to copy. At most 15 bytes stand inline. More, and any number with an expected sum, stand in a tree, which a
+/// pass keeps between calls. Contracts see its bytes, and its tree where it has one.
 #[derive(Drop)]
 pub struct Cord<P: Naming> {
     pub(crate) form: Form<P>,
@@ -126,13 +128,29 @@ impl<P: Naming> Cord<P> {
         }
     }
 
-    /// Whether the bytes stand in a tree, which is so exactly where there are more than 15.
+    /// Whether the bytes stand in a tree, which is so exactly where there are more than 15 or a sum.
     pub fn is_tree(&self) -> bool
         ensures tree { IsTrue result ↔ IsSome self.now.tree }
-        ensures long { IsTrue result ↔ (15 < length self.now.bytes) }
+        ensures long { IsTrue result ↔ ((15 < length self.now.bytes) ⊎ IsSome (sum_in_cord self.now)) }
         ensures formed { IsTreeOf self.now.bytes self.now.tree }
     {
         matches!(&self.form, Form::Tree { .. })
+    }
+
+    /// Makes the cord an inline one of these bytes. Its tree is left, and its pass ends.
+    pub(crate) fn set_inline<B: Releaser>(
+        &mut self,
+        pool: &Pool<P, B>,
+        w: &mut Worker<P>,
+        bytes: ArrayVec<u8, 15>,
+    )
+        requires few { length bytes.items ≤ 15 }
+        requires room { length w.old.holds ≤ 96 }
+        ensures set { self.new ≡ inline_cord bytes.items }
+        ensures worker { Keeps P.limit [] 0 (passes_of self.old.tree) w.old w.new }
+    {
+        let form = Form::Inline(bytes);
+        mem::replace(self, Cord { form }).release(pool, w);
     }
 
     /// Leaves the tree and ends its pass.
@@ -154,7 +172,7 @@ impl<P: Naming> Cord<P> {
 }
 
 /// A tree of these bytes: one flat, or Branches over flats.
-fn new_tree<P: Naming, B: Releaser>(
+pub(crate) fn new_tree<P: Naming, B: Releaser>(
     alloc: Global,
     pool: &Pool<P, B>,
     w: &mut Worker<P>,

@@ -3,10 +3,15 @@
 
 mod copies;
 mod cord;
+mod cutting;
+mod external;
 mod growing;
 mod inline;
+mod joining;
 mod reading;
 mod refusals;
+mod settling;
+mod sums;
 #[cfg(test)]
 mod tests;
 

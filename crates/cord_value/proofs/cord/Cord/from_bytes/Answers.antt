@@ -1,5 +1,5 @@
 -- What a new cord, and a refused one, leave a worker with.
-use Rattle.std.proofs.Common.{[], length, refl, sym, subst, ap, arith}
+use Rattle.std.proofs.Common.{[], inl, length, refl, sym, subst, ap, arith}
 use Rattle.cord_value.specs.declared.refusals.CordError.{CordError}
 use Rattle.cord_value.specs.Refusals.{IsMakeRefused, IsMakeUndone, IsBalanced}
 use Rattle.cord_value.proofs.Balances.{keeps-same, keeps-made, keeps-packed, unshared-made, balanced-length, balanced-limit_err, balanced-packed, undone-refused, untaken-refused, cause-refused}
@@ -26,7 +26,7 @@ invariant_of-result-in-Ok g c =
 
 pub returns-in-Ok-clause-formed : goal.returns-in-Ok-clause-formed
 returns-in-Ok-clause-formed g c =
-    (formed-tree c.in-Ok.root c.in-Ok.ensures.tree.0 c.in-Ok.ensures.tree.1, refl, omega (arith, c.if-bytes-le-MOST_INLINE.false, ap length c.in-Ok.ensures.text))
+    (formed-tree c.in-Ok.root c.in-Ok.ensures.tree.0 c.in-Ok.ensures.tree.1, refl, inl (omega (arith, c.if-bytes-le-MOST_INLINE.false, ap length c.in-Ok.ensures.text)))
 
 pub returns-in-Ok-clause-numbers : goal.returns-in-Ok-clause-numbers
 returns-in-Ok-clause-numbers g c = keeps-packed _ c.in-Ok.root _ _ _ _ c.in_ok-pass.ensures.made c.in-Ok.ensures.made c.fill.ensures.filled c.fill.ensures.traded

@@ -1,6 +1,6 @@
 -- What a released cord leaves a worker with.
 use Rattle.std.proofs.Common.{ℕ, [], refl, sym, subst, ap, ◌∙◌}
-use Rattle.btree_node.proofs.MadeLaws.{tree-short}
+use Rattle.node_edges.proofs.WayLaws.{whole-down}
 use Rattle.cord_value.specs.Forms.{view_of, IsForm}
 use Rattle.cord_value.specs.Views.{CordView, passes_of}
 use Rattle.cord_value.specs.Workers.{Keeps}
@@ -22,4 +22,4 @@ returns-in-Tree-clause-worker g c =
     (keeps-released _ c.in-Tree.root v c.draw_and_end.new.w c.finish.new.w c.in-Tree.pass c.draw_and_end.ensures.drawn c.draw_and_end.ensures.traded kept.pass c.finish.ensures.finished c.finish.ensures.traded)
 
 pub finish-requires-clause-short : goal.finish-requires-clause-short
-finish-requires-clause-short g c = let kept = subst IsForm c.in-Tree.is c.self.invariant in tree-short c.in-Tree.root kept.tree kept.filled
+finish-requires-clause-short g c = let kept = subst IsForm c.in-Tree.is c.self.invariant in whole-down c.in-Tree.root kept.formed

@@ -1,0 +1,9 @@
+-- The lemmas of this crate.
+mod OrderLaws
+mod PieceLaws
+mod StepLaws
+mod OccurLaws
+mod AcrossLaws
+mod ChunkLaws
+mod EndLaws
+mod WholeLaws
