@@ -1,5 +1,6 @@
 """A straightforward interpreter of scripts without a fault: each cord is a byte string of Python's, and the board a dictionary."""
 
+import copy
 import re
 
 ESCAPES = {b'"': b'"', b"\\": b"\\", b"n": b"\n"}
@@ -56,6 +57,12 @@ class Session:
     def cut(self, name, asked, text):
         size = len(self.cords[name])
         return self.change(name, text) if asked <= size else f"! position {asked} {size}"
+
+    def would(self, word, rest):
+        """The reply to a command on no cell, which isn't done."""
+        trial = copy.copy(self)
+        trial.cords, trial.sums = dict(self.cords), dict(self.sums)
+        return trial.answer(word, rest)
 
     def does(self, word, rest):
         """The reply to a command, and the history's line of it where it acts on a cell."""
@@ -147,12 +154,21 @@ def sessions_of(script):
     return sessions
 
 
+def option_of(script, word, default):
+    for line in script.split(b"\n"):
+        if line.startswith(word + b" "):
+            return int(line.split(b" ")[1])
+    return default
+
+
 def pool_of(script):
     """How many numbers the script's pool has."""
-    for line in script.split(b"\n"):
-        if line.startswith(b"pool "):
-            return int(line.split(b" ")[1])
-    return 65536
+    return option_of(script, b"pool", 65536)
+
+
+def passes_of(script):
+    """How many passes may be live, one for each tree in a name or a cell."""
+    return option_of(script, b"passes", 16384)
 
 
 def output(names, replies, history, pool=65536):

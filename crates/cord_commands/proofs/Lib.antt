@@ -2,3 +2,10 @@
 pub mod Steady
 pub mod Renaming
 pub mod Spelling
+pub mod Stepping
+pub mod Comings
+pub mod Doing
+pub mod Refused
+pub mod Edited
+pub mod EditLaws
+pub mod Absent

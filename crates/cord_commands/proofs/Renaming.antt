@@ -7,7 +7,8 @@ use Rattle.std.proofs.lemmas.Slice.Eq.{bytes_eq-Decides}
 use Rattle.ordered_names.specs.declared.names.Names.{Names}
 use Rattle.ordered_names.specs.Named.{named}
 use Rattle.cord_value.specs.Views.{CordView}
-use Rattle.cord_commands.specs.Views.{no_cord, AreSame, IsSetTo}
+use Rattle.cord_value.specs.Views.{no_cord}
+use Rattle.cord_commands.specs.Views.{AreSame, IsSetTo}
 
 over : (b : Bool) (first second was : Option CordView) → (if b then second else (if b then first else was)) ≡ (if b then second else was)
 over true first second was = refl

@@ -1,5 +1,5 @@
 -- What a command leaves a worker with, and how many passes the cords of the names have.
-use Rattle.std.specs.Prelude.{ℕ, ◌≡◌, ◌+◌, Option, Result, Ok, Err, sum_by}
+use Rattle.std.specs.Prelude.{ℕ, ◌≡◌, ◌+◌, [], Option, Result, Ok, Err, sum_by}
 use Rattle.std.specs.Option.{option_map_or}
 use Rattle.pool_rule.specs.Gains.{HasGained}
 use Rattle.pool_rule.specs.Trades.{SameHolds}
@@ -24,9 +24,10 @@ abbrev pub trees_made : Result CordView CordError → ℕ
 trees_made (Ok c) = trees_of c
 trees_made (Err x) = 0
 
--- The worker holds what it held, and its lists only grew. Passes that it made and trees that there were are passes that it ended and trees that
+-- The worker holds what it held, and its lists only grew, but for the releaser slots, which stay. Passes that it made and trees that there were are passes that it ended and trees that
 -- there are.
 pub record IsSteady (v w : View) (before after : ℕ) : Type 0 where
   pub holds : SameHolds v.holds w.holds
   pub grew : HasGained v w
+  pub idle : grew.gain.used ≡ []
   pub accounts : w.made + (v.ended + before) ≡ v.made + (w.ended + after)

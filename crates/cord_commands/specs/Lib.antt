@@ -3,3 +3,7 @@ pub mod Views
 pub mod Accounts
 pub mod Answers
 pub mod Texts
+pub mod Edits
+pub mod Asked
+pub mod Bare
+pub mod Does

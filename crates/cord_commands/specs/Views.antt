@@ -8,10 +8,6 @@ use Rattle.cord_value.specs.Views.{CordView, cord_shape}
 use Rattle.cord_steps.specs.Cords.{Cord}
 use Rattle.cord_steps.specs.Cords.{Names as StepNames}
 
--- no bytes and no tree
-abbrev pub no_cord : CordView
-no_cord = record { bytes = []; tree = None }
-
 -- the cord with its sum and its shape, and without a record
 abbrev pub cord_in : CordView → Cord
 cord_in c = record { bytes = c.bytes; sum = sum_of (cord_shape c).tree; shape = (cord_shape c).tree; note = None }

@@ -3,17 +3,19 @@ ghost use Rattle.std.specs.Prelude.{◌≡◌, ◌≤◌, length, Err, IfOk, OnE
 ghost use Rattle.cord_value.specs.declared.refusals.CordError.TheVariants.{Memory};
 ghost use Rattle.cord_commands.specs.Accounts.{trees_in, IsSteady};
 ghost use Rattle.cord_commands.specs.Answers.{IsAnswerTo};
+ghost use Rattle.cord_commands.specs.Does.{Does};
+ghost use Rattle.cord_commands.specs.Edits.{command_of, IsApt};
+ghost use Rattle.cord_steps.specs.Answers.{Plain};
 ghost use Rattle.cord_commands.specs.Views.{AreSame};
 
 use crate::answer::{Answer, done, refusal, told, unset};
 use crate::edits::{Edit, apply};
 use crate::lending::{put_back, take_out};
-use crate::texts::TextBytes;
 use cord_port::Releaser;
 use cord_value::{Cord, CordError};
-use node_pool::{Naming, Pool, Side, Worker};
+use node_pool::{Naming, Pool, Worker};
 use ordered_names::Names;
-use plain_cord::{Reply, Text};
+use plain_cord::Reply;
 use std::alloc::{AllocError, Global};
 
 /// The answer to a change.
@@ -37,37 +39,19 @@ pub fn change<P: Naming, B: Releaser>(
     by: Edit<'_>,
 ) -> Result<Answer, AllocError>
     requires room { length w.old.holds ≤ 96 }
+    requires apt { IsApt names.old a.now by }
     ensures steady { IsSteady w.old w.new (trees_in names.old) (trees_in names.new) }
+    ensures does { IfOk result (λ answer. Does P.size P.limit names.old names.new w.old w.new (Plain (command_of a.now by.entry)) answer) }
     ensures same { OnErr result (AreSame names.old names.new) }
 {
     let Some(mut cord) = take_out(names, a) else {
         return unset(alloc, a);
     };
+    let _ = cord.len();
     let edited = apply(alloc, pool, w, &mut cord, by);
+    let _ = cord.len();
     put_back(names, a, cord);
     changed(edited)
-}
-
-/// Adds the bytes of a text at a side.
-pub fn add_text<P: Naming, B: Releaser>(
-    alloc: Global,
-    pool: &Pool<P, B>,
-    w: &mut Worker<P>,
-    names: &mut Names<'_, Cord<P>>,
-    a: &[u8],
-    text: &Text,
-    side: Side,
-) -> Result<Answer, AllocError>
-    requires room { length w.old.holds ≤ 96 }
-    ensures steady { IsSteady w.old w.new (trees_in names.old) (trees_in names.new) }
-    ensures same { OnErr result (AreSame names.old names.new) }
-{
-    let bytes = TextBytes::of_text(alloc, text)?;
-    let by = match side {
-        Side::Front => Edit::Prepend(bytes.as_slice()),
-        Side::Back => Edit::Append(bytes.as_slice()),
-    };
-    change(alloc, pool, w, names, a, by)
 }
 
 /// Sets the expected sum of a cord that has bytes.

@@ -1,14 +1,17 @@
 //! The table of commands.
-ghost use Rattle.std.specs.Prelude.{◌≡◌, ◌≤◌, length, OnErr};
+ghost use Rattle.std.specs.Prelude.{◌≡◌, ◌≤◌, length, None, OnErr};
+ghost use Rattle.plain_cord.specs.Outcomes.{asked_action};
+ghost use Rattle.cord_steps.specs.Answers.{Plain};
+ghost use Rattle.cord_steps.specs.Whole.{IsWithin};
 ghost use Rattle.cord_commands.specs.Accounts.{trees_in, IsSteady};
 ghost use Rattle.cord_commands.specs.Views.{AreSame};
 
 use crate::answer::Answer;
-use crate::asking::size;
-use crate::changing::{add_text, change, set_sum};
+use crate::asking::{byte, ends, order, place, print, size, starts, sum};
+use crate::changing::{change, set_sum};
 use crate::edits::Edit;
 use crate::joining::join;
-use crate::making::{clear, copy, set_text};
+use crate::making::{clear, copy, set_text, sub};
 use cord_port::Releaser;
 use cord_value::Cord;
 use node_pool::{Naming, Pool, Side, Worker};
@@ -25,18 +28,37 @@ pub fn run_command<'a, P: Naming, B: Releaser>(
     command: &'a Command,
 ) -> Result<Answer, AllocError>
     requires room { length w.old.holds ≤ 96 }
+    requires within { IsWithin (Plain command.now) }
+    requires apart { asked_action command.now ≡ None }
     ensures steady { IsSteady w.old w.new (trees_in names.old) (trees_in names.new) }
     ensures same { OnErr result (AreSame names.old names.new) }
 {
     match command {
         Command::Let { a, text } => set_text(alloc, pool, w, names, a.as_slice(), text),
         Command::Copy { a, b } => copy(alloc, pool, w, names, a.as_slice(), b.as_slice()),
+        Command::Sub { a, pos, n, b } => {
+            sub(alloc, pool, w, names, a.as_slice(), *pos, *n, b.as_slice())
+        }
         Command::Clear { a } => clear(alloc, pool, w, names, a.as_slice()),
         Command::Append { a, text } => {
-            add_text(alloc, pool, w, names, a.as_slice(), text, Side::Back)
+            change(
+                alloc,
+                pool,
+                w,
+                names,
+                a.as_slice(),
+                Edit::Add(text, Side::Back),
+            )
         }
         Command::Prepend { a, text } => {
-            add_text(alloc, pool, w, names, a.as_slice(), text, Side::Front)
+            change(
+                alloc,
+                pool,
+                w,
+                names,
+                a.as_slice(),
+                Edit::Add(text, Side::Front),
+            )
         }
         Command::Join { a, b } => {
             join(
@@ -66,6 +88,14 @@ pub fn run_command<'a, P: Naming, B: Releaser>(
         Command::CutBack { a, n } => change(alloc, pool, w, names, a.as_slice(), Edit::CutBack(*n)),
         Command::SetSum { a, value } => set_sum(alloc, pool, w, names, a.as_slice(), *value),
         Command::Size { a } => size(alloc, names, a.as_slice()),
-        _ => Err(AllocError),
+        Command::Sum { a } => sum(alloc, names, a.as_slice()),
+        Command::Print { a } => print(alloc, names, a.as_slice()),
+        Command::At { a, i } => byte(alloc, names, a.as_slice(), *i),
+        Command::Find { a, text } => place(alloc, names, a.as_slice(), text),
+        Command::Compare { a, b } => order(alloc, names, a.as_slice(), b.as_slice()),
+        Command::Starts { a, text } => starts(alloc, names, a.as_slice(), text),
+        Command::Ends { a, text } => ends(alloc, names, a.as_slice(), text),
+        Command::Put { .. } | Command::Take { .. } | Command::Peek { .. } | Command::Swap { .. } =>
+            unreachable!(),
     }
 }

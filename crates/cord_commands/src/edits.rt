@@ -1,19 +1,27 @@
 //! Changes of one cord.
-ghost use Rattle.std.specs.Prelude.{◌≡◌, ◌≤◌, length, OnErr};
+ghost use Rattle.std.specs.Prelude.{◌≡◌, ◌≤◌, ◌++◌, length, IfOk, IfErr, OnErr};
+ghost use Rattle.plain_cord.specs.Texts.{text_bytes};
+ghost use Rattle.tree_shapes.specs.Cords.{IsBytesAdded};
+ghost use Rattle.tree_shapes.specs.Growth.{beside};
+ghost use Rattle.cord_value.specs.Refusals.{IsBalanced};
+ghost use Rattle.cord_value.specs.Views.{cord_shape};
 ghost use Rattle.cord_commands.specs.Accounts.{trees_of, IsSteady};
+ghost use Rattle.cord_commands.specs.Edits.{IsEdited, IsEditRefused, IsTextRefused};
 
+use crate::texts::TextBytes;
 use cord_port::Releaser;
 use cord_value::{Cord, CordError};
-use node_pool::{Naming, Pool, Worker};
+use node_pool::{Naming, Pool, Side, Worker};
+use plain_cord::Text;
 use std::alloc::Global;
 
 /// What a command changes a cord by.
 #[derive(Clone, Copy)]
 pub enum Edit<'b> {
-    Append(&'b [u8]),
-    Prepend(&'b [u8]),
-    /// The cord's own bytes once more behind them.
-    Double,
+    /// The bytes of the text, at a side.
+    Add(&'b Text, Side),
+    /// The cord's own bytes once more, by a command that says this side.
+    Double(Side),
     CutFront(u64),
     CutBack(u64),
     SetSum(u32),
@@ -29,7 +37,42 @@ pub fn apply<P: Naming, B: Releaser>(
 ) -> Result<(), CordError>
     requires room { length w.old.holds ≤ 96 }
     ensures steady { IsSteady w.old w.new (trees_of cord.old) (trees_of cord.new) }
+    ensures edited { IfOk result (λ _. IsEdited change.entry cord.old cord.new) }
+    ensures refused { IfErr result (λ x. IsEditRefused P.size P.limit change.entry cord.old x w.old w.new) }
+    ensures balanced { IfErr result (λ x. IsBalanced P.limit x w.old w.new) }
     ensures same { OnErr result (cord.new ≡ cord.old) }
 {
-    Err(CordError::Memory)
+    match change {
+        Edit::Add(text, side) => add_text(alloc, pool, w, cord, text, side),
+        Edit::Double(_) => cord.double(alloc, pool, w),
+        Edit::CutFront(n) => cord.cut_front(alloc, pool, w, n),
+        Edit::CutBack(n) => cord.cut_back(alloc, pool, w, n),
+        Edit::SetSum(value) => cord.set_sum(alloc, pool, w, value),
+    }
+}
+
+// Adds the bytes of a text.
+fn add_text<P: Naming, B: Releaser>(
+    alloc: Global,
+    pool: &Pool<P, B>,
+    w: &mut Worker<P>,
+    cord: &mut Cord<P>,
+    text: &Text,
+    side: Side,
+) -> Result<(), CordError>
+    requires room { length w.old.holds ≤ 96 }
+    ensures steady { IsSteady w.old w.new (trees_of cord.old) (trees_of cord.new) }
+    ensures bytes { IfOk result (λ _. cord.new.bytes ≡ beside side cord.old.bytes (text_bytes text.now)) }
+    ensures shape { IfOk result (λ _. IsBytesAdded side (length (text_bytes text.now)) (cord_shape cord.old) (cord_shape cord.new)) }
+    ensures refused { IfErr result (λ x. IsTextRefused P.size P.limit side (length (text_bytes text.now)) cord.old x w.old w.new) }
+    ensures balanced { IfErr result (λ x. IsBalanced P.limit x w.old w.new) }
+    ensures same { OnErr result (cord.new ≡ cord.old) }
+{
+    let Ok(bytes) = TextBytes::of_text(alloc, text) else {
+        return Err(CordError::Memory);
+    };
+    match side {
+        Side::Front => cord.prepend_bytes(alloc, pool, w, bytes.as_slice()),
+        Side::Back => cord.append_bytes(alloc, pool, w, bytes.as_slice()),
+    }
 }

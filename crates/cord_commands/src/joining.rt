@@ -28,7 +28,7 @@ pub fn join<P: Naming, B: Releaser>(
     ensures same { OnErr result (AreSame names.old names.new) }
 {
     if a == b {
-        return change(alloc, pool, w, names, a, Edit::Double);
+        return change(alloc, pool, w, names, a, Edit::Double(side));
     }
     let Some(mut cord) = take_out(names, a) else {
         return unset(alloc, a);
@@ -57,5 +57,8 @@ fn add_cord<P: Naming, B: Releaser>(
     ensures same { OnErr result (cord.new ≡ cord.old) }
     ensures kept { other.new ≡ other.old }
 {
-    Err(CordError::Memory)
+    match side {
+        Side::Front => cord.prepend_cord(alloc, pool, w, other),
+        Side::Back => cord.append_cord(alloc, pool, w, other),
+    }
 }

@@ -2,7 +2,8 @@
 ghost use Rattle.std.specs.Prelude.{◌≡◌, ◌≤◌, ◌+◌, length, Some, IfSome, IfNone};
 ghost use Rattle.ordered_names.specs.Named.{named};
 ghost use Rattle.cord_commands.specs.Accounts.{trees_of, trees_in, trees_if, IsSteady};
-ghost use Rattle.cord_commands.specs.Views.{no_cord, AreSame, IsSetTo};
+ghost use Rattle.cord_value.specs.Views.{no_cord};
+ghost use Rattle.cord_commands.specs.Views.{AreSame, IsSetTo};
 
 use cord_port::Releaser;
 use cord_value::Cord;

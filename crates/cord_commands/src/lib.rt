@@ -10,6 +10,7 @@ mod edits;
 mod joining;
 mod lending;
 mod making;
+mod printing;
 mod texts;
 
 pub use answer::{Answer, done, told, unset};

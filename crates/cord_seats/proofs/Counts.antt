@@ -82,15 +82,12 @@ settled t u w a mine did none new b s e = record {
       );
 }
 
--- counted from other numbers, as far apart
-pub shifted : (v w : View) (a b c d : ℕ) → IsSteady v w a b → c + b ≡ d + a → IsSteady v w c d
-shifted v w a b c d s even = record { holds = s.holds; grew = s.grew; accounts = (let m = s.accounts in omega arith) }
-
 -- ---- passes
 pub pass-steady : (limit : ℕ) (v w : View) → IsPassMade limit v w → IsSteady v w 0 1
 pass-steady limit v w made = record {
   holds = Trades-same v.holds w.holds (ap (λ (z : View). z.holds) made.view);
   grew = record { gain = record no_gain { counts = count_of made.found v ∷ [] }; is = gained-made limit v w made };
+  idle = refl;
   accounts = (let m = ap (λ (z : View). z.made) made.view in let n = ap (λ (z : View). z.ended) made.view in omega arith);
 }
 
@@ -98,6 +95,7 @@ pub undone-steady : (found : ℕ) (v w : View) → w ≡ uncounted (counted foun
 undone-steady found v w is = record {
   holds = Trades-same v.holds w.holds (ap (λ (z : View). z.holds) is);
   grew = record { gain = record no_gain { counts = count_of found v ∷ []; ended = 1 }; is = gained-undone v w found is };
+  idle = refl;
   accounts = (let m = ap (λ (z : View). z.made) is in let n = ap (λ (z : View). z.ended) is in omega arith);
 }
 
@@ -105,5 +103,6 @@ pub end-steady : (v w : View) → w ≡ uncounted v → IsSteady v w 1 0
 end-steady v w ended = record {
   holds = Trades-same v.holds w.holds (ap (λ (z : View). z.holds) ended);
   grew = record { gain = record no_gain { ended = 1 }; is = gained-ended v w ended };
+  idle = refl;
   accounts = (let m = ap (λ (z : View). z.made) ended in let n = ap (λ (z : View). z.ended) ended in omega arith);
 }

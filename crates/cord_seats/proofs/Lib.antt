@@ -1,4 +1,5 @@
 pub mod Answered
+pub mod Apart
 pub mod Clearing
 pub mod Copies
 pub mod Counts

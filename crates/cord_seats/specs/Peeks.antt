@@ -3,7 +3,8 @@ use Rattle.std.specs.Prelude.{ℕ, ◌≡◌, ◌+◌, [], Option, Some, None, I
 use Rattle.std.specs.declared.alloc.AllocError.{AllocError}
 use Rattle.pool_rule.specs.Views.{View}
 use Rattle.cord_value.specs.Views.{CordView}
-use Rattle.cord_commands.specs.Accounts.{trees_of, IsSteady}
+use Rattle.cord_value.specs.Workers.{Keeps}
+use Rattle.cord_commands.specs.Accounts.{trees_of}
 
 -- a pass that is there
 abbrev pub one_if : {X : Type 0} → Option X → ℕ
@@ -11,9 +12,9 @@ one_if None = 0
 one_if (Some x) = 1
 
 -- the copy is the cord, and has the pass if it has a tree; else the pass is there as before
-abbrev pub IsPeeked : CordView → View → View → Option View → Result CordView AllocError → Type 0
-IsPeeked c v w left (Ok copy) = (copy ≡ c) × IsSteady v w 0 0 × (one_if left + trees_of copy ≡ 1) × IfSome left (λ p. p.holds ≡ [])
-IsPeeked c v w left (Err e) = (w ≡ v) × IsSomeAnd left (λ p. p.holds ≡ [])
+abbrev pub IsPeeked : ℕ → CordView → View → View → Option View → Result CordView AllocError → Type 0
+IsPeeked limit c v w left (Ok copy) = (copy ≡ c) × Keeps limit [] 0 0 v w × (one_if left + trees_of copy ≡ 1) × IfSome left (λ p. p.holds ≡ [])
+IsPeeked limit c v w left (Err e) = (w ≡ v) × IsSomeAnd left (λ p. p.holds ≡ [])
 
 -- the trees of what was copied
 abbrev pub copied_trees : Option (Result CordView AllocError) → ℕ

@@ -8,5 +8,5 @@ use Rattle.cord_seats.proofs.peeking.copy_in_cell.Goals as goal
 pub returns-clause-steady : goal.returns-clause-steady
 returns-clause-steady g c =
     let d = c.peek-copied.ensures.did in
-    let steady = peeked-steady (λ z. z.worker.now) (λ z. z.pass) _ d.0 c.peek-copied.result _ c.peek-copied.new.with _ c.requires.pass d.1 c.end_pass.ensures.worker in
+    let steady = peeked-steady g.P.Naming.limit (λ z. z.worker.now) (λ z. z.pass) _ d.0 c.peek-copied.result _ c.peek-copied.new.with _ c.requires.pass d.1 c.end_pass.ensures.worker in
     subst (λ z. IsSteady c.args.w.now z 1 (copied_trees c.peek-copied.result)) (search rules) steady

@@ -2,13 +2,13 @@
 use Rattle.std.proofs.Common.{ap, refl, Some, arith}
 use Rattle.cord_board.specs.Passes.{board_view}
 use Rattle.cord_commands.specs.Accounts.{trees_of}
-use Rattle.cord_commands.proofs.Steady.{steady-then, steady-as, made-then}
+use Rattle.cord_commands.proofs.Steady.{steady-then, steady-as, steady-shift, made-then}
 use Rattle.cord_seats.specs.Peeks.{copied_trees}
-use Rattle.cord_seats.proofs.Counts.{acted-steady, quiet-steady, pass-steady, undone-steady, shifted}
+use Rattle.cord_seats.proofs.Counts.{acted-steady, quiet-steady, pass-steady, undone-steady}
 use Rattle.cord_seats.proofs.peeking.peek.Goals as goal
 
 pub returns-in-Err-clause-steady : goal.returns-in-Err-clause-steady
-returns-in-Err-clause-steady g c = quiet-steady _ _ _ _ _ _ refl (shifted _ _ 0 0 _ _ (undone-steady c.in-Err.field-0.found _ _ c.in-Err.ensures.refused) refl)
+returns-in-Err-clause-steady g c = quiet-steady _ _ _ _ _ _ refl (steady-shift _ _ 0 0 _ _ (undone-steady c.in-Err.field-0.found _ _ c.in-Err.ensures.refused) refl)
 
 pub returns-in_default-clause-steady : goal.returns-in_default-clause-steady
 returns-in_default-clause-steady g c =

@@ -5,9 +5,8 @@ use Rattle.cord_board.specs.Passes.{board_view}
 use Rattle.cord_board.specs.Views.{clearings_of}
 use Rattle.board_weights.specs.Weights.{weigh_one}
 use Rattle.cord_commands.specs.Accounts.{trees_of}
-use Rattle.cord_commands.proofs.Steady.{steady-then, stay-steady}
+use Rattle.cord_commands.proofs.Steady.{steady-then, stay-steady, steady-shift}
 use Rattle.cord_seats.specs.Clearings.{weigh_clearings}
-use Rattle.cord_seats.proofs.Counts.{shifted}
 use Rattle.cord_seats.proofs.running.clear_cells.Goals as goal
 
 pub loop-cell-preserved : goal.loop-cell-preserved
@@ -22,7 +21,7 @@ loop-cell-preserved g c =
       joined = search rules;
       cleared = search rules;
       cells = search rules;
-      steady = steady-then _ _ _ _ _ 0 (shifted _ _ (weigh_clearings trees_of (clearings_of (board_view c.loop-cell.root))) 0 _ (weigh_one trees_of c.clear-was.result) inv.steady (omega arith)) c.let_lie.ensures.worker;
+      steady = steady-then _ _ _ _ _ 0 (steady-shift _ _ (weigh_clearings trees_of (clearings_of (board_view c.loop-cell.root))) 0 _ (weigh_one trees_of c.clear-was.result) inv.steady (omega arith)) c.let_lie.ensures.worker;
     }
 
 pub loop-cell-init : goal.loop-cell-init

@@ -1,0 +1,107 @@
+-- Why no cord is made, by what is to be made.
+use Rattle.std.proofs.Common.{◌≡◌, ◌∙◌, sym, ap, subst, refl, ℕ, ◌<◌, ◌≤◌, List, length, Option, Some, None, Bool, true, false, Result, Ok, Err, arith}
+use Rattle.std.specs.Prelude.{IfOk, IfErr, IsTrue, IsSome, is_some, nat_le, option_map}
+use Rattle.std.proofs.lemmas.Bool.{lt-leb}
+use Rattle.tree_shapes.specs.Cords.{CordShape, cord_of_bytes, NeedsHeight12}
+use Rattle.tree_shapes.proofs.CordLaws.{bytes-whole, cord-low}
+use Rattle.tree_shapes.proofs.KeepLaws.{if_false}
+use Rattle.tree_shapes.specs.Flats.{new_shape}
+use Rattle.node_edges.specs.Trees as edges
+use Rattle.node_forest.specs.Label.{Node}
+use Rattle.pool_rule.specs.Views.{View}
+use Rattle.ordered_names.specs.declared.names.Names.{Names}
+use Rattle.ordered_names.specs.Named.{named}
+use Rattle.cord_value.specs.Refusals.{IsMakeRefused, IsCopyRefused}
+use Rattle.cord_value.specs.declared.refusals.CordError.{CordError}
+use Rattle.cord_value.specs.declared.refusals.CordError.TheVariants as errors
+use Rattle.cord_value.specs.Views.{CordView, cord_shape}
+use Rattle.cord_steps.specs.Cords.{Cord, Note, shape_in, note_in}
+use Rattle.cord_steps.specs.Doings.{Manner, Fresh, Copied, Doing}
+use Rattle.cord_commands.specs.Bare.{IsBareCord, AreBare}
+use Rattle.cord_commands.specs.Does.{AreFormed}
+use Rattle.cord_commands.specs.Views.{cord_in, names_of}
+use Rattle.cord_commands.proofs.Doing.{Refuses, Shows, are-bare, found-in}
+
+-- ---- new bytes
+bytes-low : (n : ℕ) → n ≤ 2147483647 → ¬ (NeedsHeight12 (cord_of_bytes n))
+bytes-low n short = λ high. let low = cord-low n (cord_of_bytes n).tree (bytes-whole n short) in omega (arith, low, high)
+
+bytes-tree : (n : ℕ) → 15 < n → IsTrue (is_some (cord_of_bytes n).tree)
+bytes-tree n long = ap is_some (if_false (nat_le n 15) None (Some (new_shape n)) (lt-leb n 15 long))
+
+abbrev pub letting : List ℕ → Option Cord → ℕ → Doing
+letting a old n = record { name = a; manner = Fresh; old = old; made = cord_of_bytes n }
+
+pub bytes-refused : (size limit n : ℕ) (a : List ℕ) (old : Option Cord) (v w : View) (x : CordError) → n ≤ 2147483647 → IsMakeRefused size limit n x v w → Refuses size limit (letting a old n) x
+bytes-refused size limit n a old v w (errors.LengthLimit asked) short is = absurd (omega (arith, short, is.1))
+bytes-refused size limit n a old v w (errors.PassLimit found) short is = (bytes-low n short, bytes-tree n is.0, is.2)
+bytes-refused size limit n a old v w (errors.NoNumber seen) short is = (bytes-low n short, bytes-tree n is.0, is.2)
+bytes-refused size limit n a old v w errors.Memory short is = tt
+bytes-refused size limit n a old v w (errors.Position asked end) short is = absurd is
+bytes-refused size limit n a old v w (errors.HeightLimit height) short is = absurd is
+bytes-refused size limit n a old v w (errors.NoReleaser used) short is = absurd is
+
+pub bytes-shows : (size limit n : ℕ) (v w : View) (x : CordError) → IsMakeRefused size limit n x v w → Shows size x v w
+bytes-shows size limit n v w (errors.LengthLimit asked) is = tt
+bytes-shows size limit n v w (errors.PassLimit found) is = tt
+bytes-shows size limit n v w (errors.NoNumber seen) is = (is.2, is.3)
+bytes-shows size limit n v w errors.Memory is = tt
+bytes-shows size limit n v w (errors.Position asked end) is = tt
+bytes-shows size limit n v w (errors.HeightLimit height) is = tt
+bytes-shows size limit n v w (errors.NoReleaser used) is = absurd is
+
+-- ---- copies
+abbrev pub copying : Names CordView → List ℕ → List ℕ → Doing
+copying names a b = record { name = b; manner = Copied (note_in (names_of names a)); old = names_of names b; made = shape_in (names_of names a) }
+
+pub copied-shape : (names : Names CordView) (a : List ℕ) (c : CordView) → named names a ≡ Some c → shape_in (names_of names a) ≡ cord_shape c
+copied-shape names a c is = ap shape_in (found-in names a c is)
+
+pub some-tree : (t : Option Node) → IsSome t → IsTrue (is_some (option_map edges.shape_of t))
+some-tree None is = is
+some-tree (Some e) is = refl
+
+pub copy-refused : (size limit : ℕ) (names : Names CordView) (a b : List ℕ) (c : CordView) (v w : View) (x : CordError) → named names a ≡ Some c → AreFormed names → IsCopyRefused limit c.tree x v w → Refuses size limit (copying names a b) x
+copy-refused size limit names a b c v w (errors.PassLimit found) is whole why =
+    let bare = are-bare names whole a (cord_in c) (found-in names a c is) in
+    let low = cord-low (length c.bytes) (cord_in c).shape bare.is.whole in (
+      subst (λ (z : CordShape). ¬ (NeedsHeight12 z)) (sym (copied-shape names a c is)) (λ high. omega (arith, low, high)),
+      subst (λ (z : CordShape). IsTrue (is_some z.tree)) (sym (copied-shape names a c is)) (some-tree c.tree why.0),
+      why.1.limit_reached,
+    )
+copy-refused size limit names a b c v w errors.Memory is whole why = tt
+copy-refused size limit names a b c v w (errors.NoNumber seen) is whole why = absurd why
+copy-refused size limit names a b c v w (errors.LengthLimit asked) is whole why = absurd why
+copy-refused size limit names a b c v w (errors.Position asked end) is whole why = absurd why
+copy-refused size limit names a b c v w (errors.HeightLimit height) is whole why = absurd why
+copy-refused size limit names a b c v w (errors.NoReleaser used) is whole why = absurd why
+
+pub copy-shows : (size limit : ℕ) (t : Option Node) (v w : View) (x : CordError) → IsCopyRefused limit t x v w → Shows size x v w
+copy-shows size limit t v w (errors.PassLimit found) why = tt
+copy-shows size limit t v w errors.Memory why = tt
+copy-shows size limit t v w (errors.NoNumber seen) why = absurd why
+copy-shows size limit t v w (errors.LengthLimit asked) why = tt
+copy-shows size limit t v w (errors.Position asked end) why = tt
+copy-shows size limit t v w (errors.HeightLimit height) why = tt
+copy-shows size limit t v w (errors.NoReleaser used) why = absurd why
+
+-- ---- results
+pub ok-weaker : {T E : Type 0} (P Q : T → Type 0) (r : Result T E) → ((x : T) → P x → Q x) → IfOk r P → IfOk r Q
+ok-weaker P Q (Ok x) f p = f x p
+ok-weaker P Q (Err e) f p = tt
+
+pub err-turned : {T E : Type 0} (P Q : E → Type 0) (r : Result T E) → ((x : E) → P x → Q x) → IfErr r P → IfErr r Q
+err-turned P Q (Ok x) f p = tt
+err-turned P Q (Err e) f p = f e p
+
+pub ok-both : {T E : Type 0} (r : Result T E) (P Q : Type 0) → IfOk r (λ _. P) → IfOk r (λ _. Q) → IfOk r (λ _. P × Q)
+ok-both (Ok x) P Q p q = (p, q)
+ok-both (Err e) P Q p q = tt
+
+pub ok-three : {T E : Type 0} (r : Result T E) (P Q R : Type 0) → IfOk r (λ _. P) → IfOk r (λ _. Q) → IfOk r (λ _. R) → IfOk r (λ _. P × Q × R)
+ok-three (Ok x) P Q R p q s = (p, q, s)
+ok-three (Err e) P Q R p q s = tt
+
+pub err-both : {T E : Type 0} (r : Result T E) (P : Type 0) (Q : E → Type 0) → IfErr r (λ _. P) → IfErr r Q → IfErr r (λ x. P × Q x)
+err-both (Ok x) P Q p q = tt
+err-both (Err e) P Q p q = (p, q)
