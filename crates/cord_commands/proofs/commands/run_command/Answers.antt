@@ -1,6 +1,6 @@
 -- A question changes nothing.
-use Rattle.std.proofs.Common.{rules, ◌≡◌, ◌∙◌, sym, ap, subst, refl, ℕ, ◌+◌, arith}
-use Rattle.cord_commands.proofs.Steady.{same-steady, stay-steady}
+use Rattle.std.proofs.Common.{refl}
+use Rattle.cord_commands.proofs.Steady.{same-steady}
 use Rattle.cord_commands.proofs.commands.run_command.Goals as goal
 
 pub returns-in-Size-clause-steady : goal.returns-in-Size-clause-steady
