@@ -1,11 +1,13 @@
 """A straightforward interpreter of scripts without a fault: each cord is a byte string of Python's, and the board a dictionary."""
 
+import copy
 import re
 
 ESCAPES = {b'"': b'"', b"\\": b"\\", b"n": b"\n"}
 ESCAPE = re.compile(rb"\\(x[0-9a-f]{2}|.)")
 WITH_TEXT = {b"let", b"append", b"prepend", b"find", b"starts", b"ends"}
 ON_CELLS = {b"put", b"take", b"peek", b"swap"}
+OPTIONS = {b"pool", b"passes"}
 MOST_BYTES = 2147483647
 MOST_SHOWN = 4096
 
@@ -55,6 +57,12 @@ class Session:
     def cut(self, name, asked, text):
         size = len(self.cords[name])
         return self.change(name, text) if asked <= size else f"! position {asked} {size}"
+
+    def would(self, word, rest):
+        """The reply to a command on no cell, which isn't done."""
+        trial = copy.copy(self)
+        trial.cords, trial.sums = dict(self.cords), dict(self.sums)
+        return trial.answer(word, rest)
 
     def does(self, word, rest):
         """The reply to a command, and the history's line of it where it acts on a cell."""
@@ -136,9 +144,9 @@ def sessions_of(script):
     """The sessions of a script, in order: the name and the commands of each, a command as its first word and the others."""
     sessions = []
     for line in script.split(b"\n")[1:]:
-        if not line or line.startswith(b"#"):
-            continue
         word, _, rest = line.partition(b" ")
+        if not line or line.startswith(b"#") or word in OPTIONS:
+            continue
         if word == b"session":
             sessions.append((rest.decode(), []))
         elif word != b"end":
@@ -146,12 +154,29 @@ def sessions_of(script):
     return sessions
 
 
-def output(names, replies, history):
+def option_of(script, word, default):
+    for line in script.split(b"\n"):
+        if line.startswith(word + b" "):
+            return int(line.split(b" ")[1])
+    return default
+
+
+def pool_of(script):
+    """How many numbers the script's pool has."""
+    return option_of(script, b"pool", 65536)
+
+
+def passes_of(script):
+    """How many passes may be live, one for each tree in a name or a cell."""
+    return option_of(script, b"passes", 16384)
+
+
+def output(names, replies, history, pool=65536):
     """The text of a run: each session's line and replies, the history, and the pool, which all numbers came back to."""
     lines = []
     for name, said in zip(names, replies):
         lines += [f"session {name}", *said]
-    lines += [f"history {len(history)}", *history, "pool 0 of 65536"]
+    lines += [f"history {len(history)}", *history, f"pool 0 of {pool}"]
     return "".join(f"{line}\n" for line in lines)
 
 
@@ -165,4 +190,4 @@ def run(script):
             reply, entry = session.does(word, rest)
             replies[-1].append(reply)
             history += [entry] if entry else []
-    return output([name for name, _ in sessions], replies, history)
+    return output([name for name, _ in sessions], replies, history, pool_of(script))

@@ -4,4 +4,5 @@ pub mod PieceLaws
 pub mod CutLaws
 pub mod MadeLaws
 pub mod LowLaws
+pub mod WholeLaws
 pub mod RootLaws

@@ -103,11 +103,11 @@ unfolding lowered
 lowered-many l s many = if_false (eqb (length (children s)) 1) (lowered l (outermost Front s)) s (ne_eqb (length (children s)) 1 (omega (arith, many)))
 
 -- ---- which trees are kept
-kept-none : (e : Node) (start n : ℕ) → kept_from 0 e start n ≡ kept_at 0 e start n
+pub kept-none : (e : Node) (start n : ℕ) → kept_from 0 e start n ≡ kept_at 0 e start n
 unfolding kept_from
 kept-none e start n = refl
 
-kept-above : (l : ℕ) (e : Node) (start n : ℕ) → kept_from (suc l) e start n ≡ alone (ranges (children e) start n) (λ r. kept_from l r.node r.start r.size) (kept_at (suc l) e start n)
+pub kept-above : (l : ℕ) (e : Node) (start n : ℕ) → kept_from (suc l) e start n ≡ alone (ranges (children e) start n) (λ r. kept_from l r.node r.start r.size) (kept_at (suc l) e start n)
 unfolding kept_from
 kept-above l e start n = refl
 

@@ -11,7 +11,7 @@ use Rattle.tree_shapes.specs.Keep.{part_of, keep, lowered, kept, kept_in_front, 
 use Rattle.tree_shapes.specs.Room.{IsRooted}
 use Rattle.tree_shapes.specs.Shape.{Shape, level, length_of, IsNode, IsTree}
 use Rattle.tree_shapes.proofs.KeepLaws.{if_false, parts-cut, keeps}
-use Rattle.tree_shapes.proofs.RangeLaws.{kept-lowered}
+use Rattle.tree_shapes.proofs.RangeLaws.{kept-lowered, kept-length}
 use Rattle.tree_shapes.proofs.ShapeLaws.{level-node}
 use Rattle.node_edges.specs.Text.{text, data_edges_at}
 use Rattle.node_edges.specs.Trees.{shape_of, IsFilled, IsTreeAt}
@@ -38,6 +38,11 @@ module _ (t : Node) (start n m : ℕ) (low : Node) (from : ℕ) (e : Node) (root
       let l = kept-lowered (shape_of t) start n root.node some (omega (arith, fits, length-shape t)) in
       let r : IsRooted (shape_of e) = subst IsRooted (sym kept-shape) l.root in
       record { node = r.node; low = omega (arith, ap level kept-shape, l.low, root.low); wide = r.wide }
+
+  pub kept-long : e.0.length ≡ n
+  kept-long =
+      sym (length-shape e)
+      ∙ (ap length_of kept-shape ∙ kept-length (shape_of t) start n root.node some (omega (arith, fits, length-shape t)))
 
   pieces-at : ArePieces (ranges (data_edges t) start n) (data_edges_at m e)
   pieces-at = subst (λ (rs : List Range). ArePieces rs (data_edges_at m e)) (sym is.pieces) cut.pieces

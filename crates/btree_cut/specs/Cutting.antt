@@ -1,6 +1,6 @@
 -- What is cut of a tree, and which of its trees stand in that as they are.
-use Rattle.std.specs.Prelude.{ℕ, zero, suc, ◌≡◌, ◌+◌, ◌-◌, ◌≤◌, nat_eq, if◌then◌else◌}
-use Rattle.std.specs.Prelude.{List, [], ◌∷◌, ◌++◌, length, sum_by, All, Contains}
+use Rattle.std.specs.Prelude.{ℕ, zero, suc, ◌≡◌, ◌+◌, ◌-◌, ◌<◌, ◌≤◌, nat_eq, if◌then◌else◌}
+use Rattle.std.specs.Prelude.{List, [], ◌∷◌, ◌++◌, length, sum_by, take, slice_index_or, All, Contains}
 use Rattle.std.specs.List.{flat_map}
 use Rattle.node_forest.specs.declared.kind.Kind.{Kind}
 use Rattle.node_forest.specs.declared.kind.Kind.TheVariants.{Part}
@@ -93,3 +93,17 @@ pub record IsLowest (l : ℕ) (t : Node) (start n m : ℕ) (e : Node) (from : �
   pub shape : lowered l (keep l (shape_of t) start n) ≡ keep m (shape_of e) from n
   pub pieces : ranges (data_edges_at l t) start n ≡ ranges (data_edges_at m e) from n
   pub kept : kept_from l t start n ≡ kept_at m e from n
+
+-- ---- what a range holds whole
+-- m stands so many levels below e, and its text begins so many bytes behind that of e
+abbrev pub StandsAt : ℕ → Node → ℕ → Node → Type 0
+StandsAt zero e o m = (m ≡ e) × (o ≡ 0)
+StandsAt (suc d) e o m =
+    (k : ℕ) × (inner : ℕ) × (k < length (children e)) × (o ≡ sum_by long (take k (children e)) + inner)
+    × StandsAt d (slice_index_or (children e) k e) inner m
+
+-- each data edge, and each Branch of two edges or more, that n bytes of t from a start on hold whole stands in e
+abbrev pub HoldsWhole : Node → ℕ → ℕ → Node → Type 0
+HoldsWhole t start n e =
+    (d o : ℕ) (m : Node) → d ≤ level (shape_of t) → StandsAt d t o m → start ≤ o → o + long m ≤ start + n
+    → (0 < level (shape_of m) → 2 ≤ length (children m)) → IsWithin m e

@@ -4,5 +4,7 @@
 mod cutting;
 mod lowest;
 mod ranges;
+#[cfg(test)]
+mod tests;
 
 pub use ranges::{cut_back, cut_front, sub_tree};

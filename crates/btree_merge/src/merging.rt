@@ -24,7 +24,7 @@ fn across(side: Side) -> Side
 }
 
 /// The two trees merged: the lower one is added to the other. The worker's holds stay, and one of the new tree is added; HeightLimit comes
-/// just where a new root would have the height 12.
+/// just where a new root would have the height 12. At most one node a level is made, and one more.
 pub fn merged<P: Naming, B: Releaser>(
     alloc: Global,
     pool: &Pool<P, B>,
@@ -43,6 +43,7 @@ pub fn merged<P: Naming, B: Releaser>(
     requires room { length w.old.holds ≤ 192 }
     ensures merged { IfOk result (IsMerged side tree.now other.now) }
     ensures made { IfOk result (IsMadeFrom [] (kept_merged side tree.now other.now) w.old w.new) }
+    ensures few { IfOk result (λ _. length w.new.taken ≤ length w.old.taken + 13) }
     ensures high { 12 < level (joined side (shape_of tree.now) (shape_of other.now)) → result ≡ Err (HeightLimit 12) }
     ensures refused { IfErr result (λ x. IsLeftAlone P.size (joined side (shape_of tree.now) (shape_of other.now)) x w.old w.new) }
 {

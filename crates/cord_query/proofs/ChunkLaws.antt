@@ -18,7 +18,7 @@ module _ (hay needle chunk : List ℕ) (start : ℕ) (is : chunk ≡ take (lengt
   }
 
   -- at a place that isn't behind the last one that fits
-  not-in : (n : ℕ) → Nowhere (OccursAt chunk needle) 0 n → (k : ℕ) → start ≤ k → k < start + n → k + length needle ≤ start + length chunk → ¬ OccursAt hay needle k
+  pub not-in : (n : ℕ) → Nowhere (OccursAt chunk needle) 0 n → (k : ℕ) → start ≤ k → k < start + n → k + length needle ≤ start + length chunk → ¬ OccursAt hay needle k
   not-in n none k low high fits occurs =
       let j = k - start in
       let at : k ≡ start + j = omega (arith, low) in

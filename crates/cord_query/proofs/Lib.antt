@@ -7,3 +7,4 @@ mod AcrossLaws
 mod ChunkLaws
 mod EndLaws
 mod WholeLaws
+mod BorderLaws

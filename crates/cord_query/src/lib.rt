@@ -2,11 +2,14 @@
 //! ends with; and all bytes to a sink. No memory is taken, and an expected checksum isn't looked at.
 #![tactic(auto)]
 
+mod border;
 mod bytes;
 mod ends;
 mod order;
 mod reading;
 mod searching;
+#[cfg(test)]
+mod tests;
 mod writing;
 
 pub use bytes::at;

@@ -5,6 +5,7 @@ ghost use Rattle.plain_cord.specs.Texts.{place_of};
 ghost use Rattle.plain_cord.specs.Places.{IsFirstPlace};
 ghost use Rattle.cord_query.specs.Readers.{SameText};
 
+use crate::border::{MOST_COPIED, over_border};
 use crate::reading::{next_chunk, stands_at};
 use chunk_reader::Chunks;
 use cord_value::Cord;
@@ -47,6 +48,7 @@ fn in_chunk(
     requires size { size ≡ length ahead.old.bytes }
     requires some { 0 < length needle.now }
     requires finder { finder.now ≡ needle.now }
+    requires short { size < 2147483648 }
     requires ends { start + length chunk.now ≤ size }
     requires chunk { chunk.now ≡ take (length chunk.now) (drop start ahead.old.bytes) }
     ensures first { IsFirst (OccursAt ahead.old.bytes needle.now) start (start + length chunk.now) result }
@@ -55,7 +57,11 @@ fn in_chunk(
     if let Some(at) = finder.find(chunk) {
         return Some(start + at as u64);
     }
-    across(ahead, size, start, chunk, needle)
+    if needle.len() <= MOST_COPIED {
+        over_border(finder, ahead, start, chunk, needle)
+    } else {
+        across(ahead, size, start, chunk, needle)
+    }
 }
 
 /// The least place in the chunk from which the needle goes on behind the chunk.

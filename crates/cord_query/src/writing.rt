@@ -19,7 +19,9 @@ pub fn write_to<P: Naming, K: Sink>(cord: &Cord<P>, sink: &mut K) -> Result<(), 
 {
     let mut rest = cord.chunks();
     while let Some(chunk) = next_chunk(&mut rest) {
-        write_all(sink, chunk)?;
+        if let Err(failed) = write_all(sink, chunk) {
+            return Err(failed);
+        }
     }
     Ok(())
 }

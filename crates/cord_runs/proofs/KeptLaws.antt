@@ -41,7 +41,7 @@ module _ {R : Type 0} where
   kept-upto ((Plain command, Told reply) ∷ xs) =
       plain-upto (bytes.acts command reply) (Plain command, Told reply) (command, unmarked reply) (upto acts xs) (bytes.upto (kept xs)) refl (kept-upto xs)
       ∙ ap (λ (b : Bool). cond b ((command, unmarked reply) ∷ []) ((command, unmarked reply) ∷ bytes.upto (kept xs))) (sym (acts-unmarked (asked_action command) reply))
-  kept-upto ((External a text, Told reply) ∷ xs) = ap (λ (z : List bytes.Line). (commands.Let a text, unmarked reply) ∷ z) (kept-upto xs)
+  kept-upto ((External a text, Told reply) ∷ xs) = ap (λ (z : List bytes.Line). (commands.Ext a text, unmarked reply) ∷ z) (kept-upto xs)
   kept-upto (_ ∷ xs) = kept-upto xs
 
   plain-beyond : (b : Bool) (xs later : List (Line R)) (ys : List bytes.Line) → kept later ≡ ys → kept (cond b xs later) ≡ cond b (kept xs) ys

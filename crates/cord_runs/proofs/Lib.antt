@@ -6,3 +6,4 @@ pub mod KeptLaws
 pub mod SampleRuns
 pub mod AnswerLaws
 pub mod AloneLaws
+pub mod ScriptLaws

@@ -4,4 +4,5 @@ pub mod Stamps
 pub mod Runs
 pub mod Alone
 pub mod Kept
+pub mod Scripts
 pub mod Samples

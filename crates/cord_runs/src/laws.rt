@@ -44,7 +44,7 @@ pub fn run_orders_have_each_line<R>()
 {}
 
 /// A run over trees is a run on byte strings with the same history: without the lines that were refused for want of a height, a
-/// pass, a number or a box, those of the profiler, and marks, and with each external as a `let` of its bytes.
+/// pass, a number or a box, those of the profiler, and marks.
 pub fn runs_are_plain_runs<R>()
     ensures { (options : Options) (boxes : ℕ → ℕ) (sessions : List (List Request)) (books : List (List (Answer R))) (history : List Entry_value)
         → IsRun options boxes sessions books history

@@ -5,6 +5,7 @@
 mod alone;
 mod laws;
 mod samples;
+mod scripts;
 
 pub use alone::{
     actions_stand_alone, requests_apart_from_the_board_stand_alone, sessions_go_on_alone,
@@ -17,4 +18,8 @@ pub use laws::{
 pub use samples::{
     kept_lines_are_those_on_byte_strings, refused_peeks_are_no_actions,
     takes_find_what_was_put_before,
+};
+pub use scripts::{
+    answers_in_runs_are_told_by_their_replies, refusals_in_tree_runs_show_their_cause,
+    told_runs_are_tree_runs, tree_runs_are_plain_runs,
 };

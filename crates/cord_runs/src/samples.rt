@@ -3,7 +3,7 @@ ghost use Rattle.std.specs.Prelude.{◌≡◌, [], ◌∷◌, Some, None};
 ghost use Rattle.plain_cord.specs.declared.history.Act.TheVariants.{Take, Peek};
 ghost use Rattle.plain_cord.specs.declared.reply.NewMark.TheVariants as marks;
 ghost use Rattle.plain_cord.specs.declared.reply.Reply.TheVariants as replies;
-ghost use Rattle.plain_cord.specs.declared.script.Command.TheVariants.{Let};
+ghost use Rattle.plain_cord.specs.declared.script.Command.TheVariants.{Let, Ext};
 ghost use Rattle.cord_steps.specs.Answers.{Plain, External, Walk, NoSnapshot, Pool};
 ghost use Rattle.cord_steps.specs.Runs.{kept};
 ghost use Rattle.cord_steps.specs.Samples.{x, letters, noted};
@@ -22,9 +22,9 @@ pub fn refused_peeks_are_no_actions()
     ensures { MayRun peeking peeked_book (put_entry ∷ first_action 1 Peek None (Some 20) ∷ []) }
 {}
 
-/// Of a text that was refused for want of a number and of a walk nothing is kept, and an external is kept as the text that it has on
+/// Of a text that was refused for want of a number and of a walk nothing is kept, and an external is kept as the command that it is on
 /// byte strings, without its mark.
 pub fn kept_lines_are_those_on_byte_strings()
     ensures { kept ((Plain (Let x (letters 16)), Pool 8) ∷ (External x (letters 20), noted 1 0 20 None) ∷ (Walk, NoSnapshot) ∷ [])
-        ≡ (Let x (letters 20), replies.Done marks.Plain None) ∷ [] }
+        ≡ (Ext x (letters 20), replies.Done marks.Plain None) ∷ [] }
 {}

@@ -133,6 +133,12 @@ fn script_is_run_and_checked(rt: HostRuntime) -> Result<(), Fail> {
             "ok 1 sessions 0 commands\n",
             0,
         ),
+        (
+            "cords 1\npasses 7\npool 40\nsession a\nend\n",
+            "session a\nhistory 0\npool 0 of 40\n",
+            "ok 1 sessions 0 commands\n",
+            0,
+        ),
         ("", HEADER, HEADER, 1),
         ("cords 1\nsession a\nlet x \"ab\n", TEXT, TEXT, 1),
         ("cords 1\nsession a\nlet x \"\\q\"\n", TEXT, TEXT, 1),

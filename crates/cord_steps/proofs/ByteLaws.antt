@@ -85,22 +85,22 @@ follows-bytes R options p s cells command reply e step = go (outcome (plain_name
         (outcome-effect p (plain_session s) (plain_cells cells) command o from
         ∙ (λ i. Some (record { state = record { names = fun_ext f.names i; acted = sym acted i }; cells = plain_cells cells; entries = []; reply = sym f.says i })))
 
--- an external that is made does what a `let` of its bytes does
+-- an external that is made does what the command does on byte strings
 pub external-follows : (R : Type 0) (options : Options) (p : ℕ) (s : Session) (cells : Cells) (a : List ℕ) (text : Text) (reply : Reply) (e : Effect) → IsStep {Report = R} options p s cells (External a text) (Told reply) e
-    → PlainEffect p (plain_session s) (plain_cells cells) (commands.Let a text) (plain_effect e (unmarked reply))
+    → PlainEffect p (plain_session s) (plain_cells cells) (commands.Ext a text) (plain_effect e (unmarked reply))
 external-follows R options p s cells a text reply e step = boxed (has_box s) step.answered
   where
     d : Doing
     d = external_doing s.names a (text_bytes text)
 
     made : (r : Reply) → IsDoneReply options s d r → e ≡ left (after_reply (record s { externals = s.externals + 1 }) (Some (plain (text_bytes text))) d r) cells
-        → PlainEffect p (plain_session s) (plain_cells cells) (commands.Let a text) (plain_effect e (unmarked r))
+        → PlainEffect p (plain_session s) (plain_cells cells) (commands.Ext a text) (plain_effect e (unmarked r))
     made (replies.Done mark lost) is done =
         let c : Cord = cord_with d mark (plain (text_bytes text)) in
-        subst (λ (x : Effect). PlainEffect p (plain_session s) (plain_cells cells) (commands.Let a text) (plain_effect x (unmarked (replies.Done mark lost)))) (sym done)
+        subst (λ (x : Effect). PlainEffect p (plain_session s) (plain_cells cells) (commands.Ext a text) (plain_effect x (unmarked (replies.Done mark lost)))) (sym done)
         (λ i. Some (record { state = record { names = fun_ext (named-alike s.names a c) i; acted = s.acted }; cells = plain_cells cells; entries = []; reply = unmarked (replies.Done mark lost) }))
     made _ is done = absurd is
 
-    boxed : (b : Bool) → IsExternalAnswer {Report = R} b options s d (Told reply) → PlainEffect p (plain_session s) (plain_cells cells) (commands.Let a text) (plain_effect e (unmarked reply))
+    boxed : (b : Bool) → IsExternalAnswer {Report = R} b options s d (Told reply) → PlainEffect p (plain_session s) (plain_cells cells) (commands.Ext a text) (plain_effect e (unmarked reply))
     boxed false is = absurd (cc)
     boxed true is = made reply is.1 step.done

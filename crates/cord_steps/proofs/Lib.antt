@@ -7,3 +7,4 @@ pub mod RunLaws
 pub mod WholeLaws
 pub mod StayLaws
 pub mod NoteLaws
+pub mod ReplyLaws

@@ -122,6 +122,7 @@ module _ (options : Options) (none : options.stride ≡ 0) (s : Session) (named 
 
   bares : (choice : Bool) (command : Command) → IsBareFor (doing choice s.names command)
   bares choice (commands.Let a text) = record { old = named a; source = refl }
+  bares choice (commands.Ext a text) = record { old = named a; source = refl }
   bares choice (commands.Copy a b) = record { old = named b; source = ap is_some (named a) }
   bares choice (commands.Sub a pos n b) = record { old = named b; source = refl }
   bares choice (commands.Clear a) = record { old = named a; source = refl }

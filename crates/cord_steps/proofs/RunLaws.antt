@@ -155,7 +155,7 @@ module _ {R : Type 0} (options : Options) (rest : RefusalsRest R) where
 
   by-request : (states : ℕ → Session) (cells : Cells) (p : ℕ) (request : Request) (answer : Answer R) (e : Effect) (xs : List (ℕ × Line R)) (history more : List Entry) → IsStep options p (states p) cells request answer e → history ≡ e.entries ++ more → Goal (replaced states p e.state) e.cells xs more → Goal states cells ((p, (request, answer)) ∷ xs) history
   by-request states cells p (Plain command) answer e xs history more step split later = by-answer states cells p command answer e xs history more step (told-or-refused options p (states p) cells command answer e step) split later
-  by-request states cells p (External a text) (Told reply) e xs history more step split later = told-on states cells p (commands.Let a text) reply e xs history more (external-follows R options p (states p) cells a text reply e step) split later
+  by-request states cells p (External a text) (Told reply) e xs history more step split later = told-on states cells p (commands.Ext a text) reply e xs history more (external-follows R options p (states p) cells a text reply e step) split later
   by-request states cells p (External a text) _ e xs history more step split later = quiet-step states cells p (states p) e xs history more step.done refl split later
   by-request states cells p Snap answer e xs history more step split later = quiet-step states cells p (snap_after (states p) answer) e xs history more step.done (snap-plain (states p) answer) split later
   by-request states cells p Walk answer e xs history more step split later = quiet-step states cells p (states p) e xs history more step.done refl split later

@@ -117,6 +117,7 @@ module _ (choice : Bool) (names : Names) where
 
   pub settled : (command : Command) → IsSettled e (outcome e command) (doing choice names command)
   settled (commands.Let a text) = settle-set e a _
+  settled (commands.Ext a text) = settle-set e a _
   settled (commands.Copy a b) = settle-cord e b a _ (λ cord found. settle-set e b cord)
   settled (commands.Sub a pos n b) = settle-cord e b a _ (λ cord found. settle-set e b _)
   settled (commands.Clear a) = settle-cord e a a _ (λ cord found. record { others = λ name other. with_name-other e a name _ other; stays = tt; bare = refl })

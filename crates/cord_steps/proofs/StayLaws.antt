@@ -100,6 +100,7 @@ module _ (options : Options) (s : Session) (all : AllWhole s.names) where
 
   sourced : (choice : Bool) (command : Command) → IsSourcedFor (doing choice s.names command)
   sourced choice (commands.Let a text) = λ z. refl
+  sourced choice (commands.Ext a text) = λ z. refl
   sourced choice (commands.Copy a b) = copy-sourced (s.names a) (λ c is. all a c is)
   sourced choice (commands.Sub a pos n b) = λ z. refl
   sourced choice (commands.Clear a) = λ z. refl

@@ -19,7 +19,7 @@ use Rattle.plain_cord.specs.States.{CordState, Environment, plain, with_name, em
 use Rattle.plain_cord.specs.Outcomes.{Outcome, outcome, done, keeping, edited, refused, grown, cut, with_found, with_cord}
 use Rattle.tree_shapes.specs.Cords as shapes
 use Rattle.tree_shapes.specs.Cords.{CordShape, sum_of, IsTreeFor, IsCordShape, IsTreeWithoutSum, IsChanged, cord_of_bytes, cord_of_external, with_bytes_added, with_cord_added, doubled, sub_cord, front_cut, back_cut, level_in}
-use Rattle.tree_shapes.proofs.CordLaws.{bytes-changed, bytes-whole, bytes-added, added-whole, cord-added, cord-added_whole, sub-changed, sub-whole, front-changed, front-whole, back-changed, back-whole, changed-no_sum, sum-set, sum-whole}
+use Rattle.tree_shapes.proofs.CordLaws.{bytes-changed, bytes-whole, bytes-added, added-whole, cord-added, cord-added_whole, sub-changed, sub-whole, front-changed, front-whole, back-changed, back-whole, changed-no_sum, external-whole, sum-set, sum-whole}
 use Rattle.tree_shapes.proofs.KeepLaws.{if_true, if_false}
 use Rattle.cord_steps.specs.Answers.{Plain}
 use Rattle.cord_steps.specs.Cords.{Cord, Names, IsCord, plain_of, plain_names, shape_of, shape_in}
@@ -158,6 +158,9 @@ module _ (choice : Bool) (names : Names) (all : (a : List ℕ) (c : Cord) → na
   makes (commands.Let a text) within =
       let n : ℕ = length (text_bytes text) in
       makes-set e a (plain (text_bytes text)) (cord_of_bytes n) (record { size = refl; sum = sym (changed-no_sum _ _ (bytes-changed n).1); whole = λ low. bytes-whole n within })
+  makes (commands.Ext a text) within =
+      let n : ℕ = length (text_bytes text) in
+      makes-set e a (plain (text_bytes text)) (cord_of_external n) (record { size = refl; sum = refl; whole = λ low. external-whole n within.0 within.1 })
   makes (commands.Copy a b) within = makes-cord names a b (shape_in (names a)) _ (λ c found.
       of-found (λ x. x) b a c (done (with_name e b (plain_of c))) found (makes-set e b (plain_of c) (shape_of c) (record { size = refl; sum = (all a c found).sum; whole = λ low. (all a c found).whole })))
   makes (commands.Sub a pos n b) within = makes-cord names a b (sub_cord pos n (shape_in (names a))) _ (λ c found.

@@ -49,9 +49,14 @@ joined_shape choice side names a b =
     if bytes_eq a b then doubled choice (shape_in (names a))
     else with_cord_added choice side (shape_in (names b)) (shape_in (names a))
 
+-- an external node of these bytes
+abbrev pub external_doing : Names → List ℕ → List ℕ → Doing
+external_doing names a bytes = record { name = a; manner = Fresh; old = names a; made = cord_of_external (length bytes) }
+
 -- The choice is whether a last flat is filled or shortened. None: the command sets no name but by the board.
 abbrev pub doing : Bool → Names → Command → Option Doing
 doing choice names (commands.Let a text) = fresh names a (cord_of_bytes (length (text_bytes text)))
+doing choice names (commands.Ext a text) = Some (external_doing names a (text_bytes text))
 doing choice names (commands.Copy a b) = copied names b (names a)
 doing choice names (commands.Sub a pos n b) = fresh names b (sub_cord pos n (shape_in (names a)))
 doing choice names (commands.Clear a) = fresh names a (cord_of_bytes 0)
@@ -65,7 +70,3 @@ doing choice names (commands.CutFront a n) = changed names a (front_cut n (shape
 doing choice names (commands.CutBack a n) = changed names a (back_cut choice n (shape_in (names a)))
 doing choice names (commands.SetSum a value) = summed names a (with_sum value (shape_in (names a)))
 doing choice names _ = None
-
--- an external node of these bytes
-abbrev pub external_doing : Names → List ℕ → List ℕ → Doing
-external_doing names a bytes = record { name = a; manner = Fresh; old = names a; made = cord_of_external (length bytes) }

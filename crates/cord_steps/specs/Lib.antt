@@ -1,6 +1,7 @@
 -- The definitions of this crate.
 pub mod Cords
 pub mod Answers
+pub mod Replies
 pub mod Sessions
 pub mod Doings
 pub mod Marks

@@ -25,11 +25,11 @@ Plays options states cells (x ∷ xs) history =
 
 -- ---- the lines on byte strings
 
--- A command that was answered as on byte strings, without marks, and an external that was made, as a `let` of its bytes. Of any
--- other line nothing is kept.
+-- A command that was answered as on byte strings, without marks; an external that was made is one too. Of any other line nothing is
+-- kept.
 abbrev pub kept_line : {Report : Type 0} → Line Report → List bytes.Line
 kept_line (Plain command, Told reply) = (command, unmarked reply) ∷ []
-kept_line (External a text, Told reply) = (commands.Let a text, unmarked reply) ∷ []
+kept_line (External a text, Told reply) = (commands.Ext a text, unmarked reply) ∷ []
 kept_line _ = []
 
 abbrev pub kept : {Report : Type 0} → List (Line Report) → List bytes.Line

@@ -15,5 +15,6 @@ pub record AreWhole (s : Session) (cells : Cells) : Type 0 where
 -- a new cord has no more bytes than any may have, and an external more than an inline cord
 abbrev pub IsWithin : Request → Type 0
 IsWithin (Plain (commands.Let a text)) = length (text_bytes text) ≤ 2147483647
+IsWithin (Plain (commands.Ext a text)) = (15 < length (text_bytes text)) × (length (text_bytes text) ≤ 2147483647)
 IsWithin (External a text) = (15 < length (text_bytes text)) × (length (text_bytes text) ≤ 2147483647)
 IsWithin _ = Unit {0}

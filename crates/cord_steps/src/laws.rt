@@ -1,5 +1,5 @@
 //! What the plain step promises, of every session.
-ghost use Rattle.std.specs.Prelude.{◌≡◌, ◌⊎◌, ℕ, List};
+ghost use Rattle.std.specs.Prelude.{◌≡◌, ◌⊎◌, ℕ, List, Some};
 ghost use Rattle.plain_cord.specs.declared.script.Command.{Command as Command_value};
 ghost use Rattle.plain_cord.specs.declared.reply.Reply.{Reply as Reply_value};
 ghost use Rattle.plain_cord.specs.declared.history.Entry.{Entry as Entry_value};
@@ -10,6 +10,7 @@ ghost use Rattle.plain_cord.specs.Runs as plain;
 ghost use Rattle.cord_steps.specs.Answers.{Request, Plain, Answer, Told, IsTold, IsResourceRefusal, unmarked};
 ghost use Rattle.cord_steps.specs.Causes.{ShowsCause};
 ghost use Rattle.cord_steps.specs.Notes.{HaveNoNotes, HasNoMark};
+ghost use Rattle.cord_steps.specs.Replies.{request_of, answer_of, reply_of};
 ghost use Rattle.cord_steps.specs.Runs.{Line, Plays, new_session, kept_lines};
 ghost use Rattle.cord_steps.specs.Boarding.{left};
 ghost use Rattle.cord_steps.specs.Sessions.{Options, Session, Cells, Effect, plain_session, plain_cells, plain_effect};
@@ -44,7 +45,7 @@ pub fn commands_are_answered_or_refused<R>()
 {}
 
 /// A run over trees is a run on byte strings with the same history: without the lines that were refused for want of a height, a
-/// pass, a number or a box, those of the profiler, and marks, and with each external as a `let` of its bytes.
+/// pass, a number or a box, those of the profiler, and marks.
 pub fn runs_without_refusals_are_plain_runs<R>()
     ensures lines { (options : Options) (xs : List (ℕ × Line R)) (states : ℕ → Session) (cells : Cells) (history : List Entry_value)
         → Plays options states cells xs history
@@ -69,4 +70,14 @@ pub fn steps_without_a_stride_have_no_marks<R>()
         → options.stride ≡ 0 → IsStep options p s cells request answer e → HaveNoNotes s cells → HasNoMark answer }
     ensures notes { (options : Options) (p : ℕ) (s : Session) (cells : Cells) (request : Request) (answer : Answer R) (e : Effect)
         → options.stride ≡ 0 → IsStep options p s cells request answer e → HaveNoNotes s cells → HaveNoNotes e.state e.cells }
+{}
+
+/// A book's replies tell the answers of its session: different replies tell different answers, different commands are different
+/// requests, and the reply by which an answer of a step is told tells that answer.
+pub fn replies_tell_answers<R>()
+    ensures differ { (x : Reply_value) (y : Reply_value) → answer_of {Report = R} x ≡ answer_of y → x ≡ y }
+    ensures requests { (x : Command_value) (y : Command_value) → request_of x ≡ request_of y → x ≡ y }
+    ensures back { (reply : Reply_value) → reply_of (answer_of {Report = R} reply) ≡ Some reply }
+    ensures told { (options : Options) (p : ℕ) (s : Session) (cells : Cells) (request : Request) (answer : Answer R) (e : Effect) (reply : Reply_value)
+        → IsStep options p s cells request answer e → reply_of answer ≡ Some reply → answer ≡ answer_of reply }
 {}

@@ -6,7 +6,7 @@ mod laws;
 mod samples;
 
 pub use laws::{
-    commands_are_answered_or_refused, resource_refusals_change_nothing,
+    commands_are_answered_or_refused, replies_tell_answers, resource_refusals_change_nothing,
     resource_refusals_show_their_cause, runs_without_refusals_are_plain_runs, steps_follow_bytes,
     steps_keep_cords_whole, steps_without_a_stride_have_no_marks,
 };

@@ -6,3 +6,6 @@ pub mod Growth
 pub mod Roots
 pub mod Shapes
 mod SumLaws
+mod RangeLaws
+pub mod JoinLaws
+pub mod JoinSteps

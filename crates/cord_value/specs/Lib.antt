@@ -6,3 +6,5 @@ pub mod Workers
 pub mod Changes
 pub mod Grown
 pub mod Externals
+pub mod Ranges
+pub mod Joined

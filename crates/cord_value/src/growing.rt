@@ -63,7 +63,7 @@ impl<P: Naming> Cord<P> {
     }
 
     /// Adds the bytes at a side.
-    fn add<B: Releaser>(
+    pub(crate) fn add<B: Releaser>(
         &mut self,
         alloc: Global,
         pool: &Pool<P, B>,

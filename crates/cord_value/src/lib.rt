@@ -11,6 +11,7 @@ mod joining;
 mod reading;
 mod refusals;
 mod settling;
+mod sharing;
 mod sums;
 #[cfg(test)]
 mod tests;

@@ -1,20 +1,20 @@
 -- What a token finds at a turn of the registry, and what it may do there.
-use Rattle.std.proofs.Common.{◌≡◌, ◌≢◌, ◌⊎◌, ℕ, zero, suc, ◌<◌, ◌≤◌, ◌+◌, ◌-◌, ◌^◌, ◌*◌, List, [], ◌∷◌, map, Bool, true, false, length, IsSome, Option, Some, None, refl, sym, ap, ◌∙◌, subst, inl, inr, ⊎_elim, arith}
-use mathlib.Core.Option.{some, some-injective, some-ne-none}
-use lib.ListN.{get_elem?}
+use Rattle.std.proofs.Common.{◌≡◌, ◌≢◌, ◌⊎◌, ℕ, zero, suc, ◌<◌, ◌≤◌, ◌+◌, ◌-◌, ◌^◌, ◌*◌, List, [], ◌∷◌, map, Bool, true, false, length, IsSome, Option, Some, None, refl, sym, ap, ◌∙◌, subst, inl, inr, ⊎_elim, arith, eq-eqb}
+use Rattle.std.specs.Prelude.{◌||◌, ◌==◌}
+use mathlib.Core.Option.{some, some-injective}
 use Rattle.atomic_table.proofs.Lists.{at_map}
 use Rattle.node_forest.specs.Label.{Node}
 use Rattle.turn_desk.specs.Agreements.{Agreed}
-use Rattle.turn_desk.specs.Spots.{Spot, home, out}
+use Rattle.turn_desk.specs.Spots.{home}
 use Rattle.cordz_core.specs.declared.slot.SlotState.{SlotState}
-use Rattle.cordz_core.specs.declared.slot.SlotState.TheVariants.{Free as IsFree, Reserved, Linked, Leaving, Queued, Clearing}
+use Rattle.cordz_core.specs.declared.slot.SlotState.TheVariants.{Reserved, Linked, Leaving, Queued, Clearing}
 use Rattle.cordz_core.specs.Contents.{Contents, state_of, birth_of}
-use Rattle.cordz_core.specs.History.{History, Use, Tracked, use_of, stamp_in}
-use Rattle.cordz_core.specs.Legal.{state_after, state_for, state_by}
+use Rattle.cordz_core.specs.History.{History, Tracked, use_of, stamp_in}
+use Rattle.cordz_core.specs.Legal.{Replays, state_after, state_for, state_by}
 use Rattle.cordz_core.specs.Queue.{has}
 use Rattle.cordz_core.specs.Times.{Course, Stays, Left, Done, records, snapshots, record_in, SnapshotTimes, deleted_at}
 use Rattle.record_rule.specs.declared.values.DeskValue.{DeskValue}
-use Rattle.record_rule.specs.declared.values.DeskValue.TheVariants.{List as Lists, Record}
+use Rattle.record_rule.specs.declared.values.DeskValue.TheVariants.{List as Lists}
 use Rattle.record_rule.specs.declared.values.Rep.{Rep}
 use Rattle.record_rule.specs.declared.views.Claim.{Claim}
 use Rattle.record_rule.specs.declared.views.Claim.TheVariants.{Nothing, Promised, Written, Owned, Unlinked, Cleared, Emptied}
@@ -24,15 +24,15 @@ use Rattle.record_rule.specs.declared.views.Noted.{Noted}
 use Rattle.record_rule.specs.declared.views.TokenView.{TokenView}
 use Rattle.record_rule.specs.declared.views.DeskView.{DeskView}
 use Rattle.record_rule.specs.declared.views.DeskView.TheVariants.{Token}
-use Rattle.record_rule.specs.Log.{after_deed, history, is_walking, walk_of, made_of}
-use Rattle.record_rule.specs.Steps.{Does, MayFree, IsWritten, IsOwned, IsUnlinked, registry_of, IsList}
-use Rattle.record_rule.specs.Views.{claim_at, most_actions, most_tokens, all_left}
+use Rattle.record_rule.specs.Log.{after_deed, history, is_walking, walk_of}
+use Rattle.record_rule.specs.Steps.{Does, Makes, MayFree, IsWritten, IsOwned, IsUnlinked, registry_of, IsList}
+use Rattle.record_rule.specs.Views.{claim_at, most_actions}
 use Rattle.record_rule.specs.World.{Facts, Has, IsToken, WalksIf, IsSlot, IsWorld, Stands, value_of}
-use Rattle.record_rule.proofs.Deeds.{tracked_small}
-use Rattle.record_rule.proofs.Walks.{IsOut, out_of, Gave, gave}
+use Rattle.record_rule.proofs.Deeds.{deed_walk, tracked_small}
+use Rattle.record_rule.proofs.Walks.{IsOut, out_of, gave}
 use Rattle.cordz_desk.specs.declared.asking.Ask.{Ask}
 use Rattle.cordz_desk.specs.declared.asking.Ask.TheVariants.{Reserve, Free, Track, Unlink, Settle, Snap, Unsnap, Head, Next}
-use Rattle.cordz_desk.specs.Asking.{IsWalked, Can, May, IsAnswerTo, Performed}
+use Rattle.cordz_desk.specs.Asking.{IsWalked, HasSmall, Can, May, Performed}
 
 module _ {S : Type 0} (tree_of : S → Node) (fits : S → Type 0) where
   -- the registry at a token's turn, with all that is so besides
@@ -118,20 +118,20 @@ module _ {S : Type 0} (tree_of : S → Node) (fits : S → Type 0) where
   born_some : (r : Contents) (h : History) (n : ℕ) (slots : List ℕ) → IsOut r h n slots → IsSome (birth_of r n)
   born_some r h n slots o = subst IsSome (sym o.birth) refl
 
-  -- a slot that the token's walk gave
-  pub walked : (x : DeskValue S) (p : TokenView) (s : ℕ) → (t : AtTurn x p) → is_walking p.own ≡ true → has s (walk_of p.own) ≡ true → (s < 256) × IsWalked (state_of t.facts.registry s)
-  walked x p s t going given =
-      let g = t.facts in
-      let h : History = history g.log in
-      let rep = t.world.replays in
-      let o = out_of (is_walking p.own) g.registry h p.number (walk_of p.own) going rep t.token.walk in
-      let v = gave g.registry h p.number s (walk_of p.own) rep o given in
+  -- a slot that a walk gave
+  walked_on : (r : Contents) (h : History) (n s : ℕ) (walking : Bool) (slots : List ℕ) → Replays h r → walking ≡ true → has s slots ≡ true → WalksIf walking r h n slots → (s < 256) × IsWalked (state_of r s)
+  walked_on r h n s walking slots rep going given w =
+      let o = out_of walking r h n slots going rep w in
+      let v = gave r h n s slots rep o given in
       let used : use_of h s ≡ Tracked = ap (use_of h) (sym v.slot) ∙ v.holds.used in
       let last = ap (record_in (records h)) (sym v.slot) ∙ v.holds.last in
-      let small = tracked_small g.registry.walkers h s rep.legal used in
+      let small = tracked_small r.walkers h s rep.legal used in
       let is : state_after h s ≡ state_by (snapshots h) v.read.found.course (length h) = ap (λ u. state_for u (record_in (records h) s) (snapshots h) (length h)) used ∙ ap (λ u. state_for Tracked u (snapshots h) (length h)) last in
       let kept : state_by (snapshots h) v.read.found.course (length h) ≢ Clearing = λ e. v.holds.kept (ap (state_after h) v.slot ∙ (is ∙ e)) in
       (small, subst IsWalked (sym ((rep.entries s small).state ∙ is)) (walked_by (snapshots h) v.read.found.course (length h) kept))
+
+  pub walked : (x : DeskValue S) (p : TokenView) (s : ℕ) → (t : AtTurn x p) → is_walking p.own ≡ true → has s (walk_of p.own) ≡ true → (s < 256) × IsWalked (state_of t.facts.registry s)
+  walked x p s t going given = walked_on t.facts.registry (history t.facts.log) p.number s (is_walking p.own) (walk_of p.own) t.world.replays going given t.token.walk
 
   can : (x : DeskValue S) (p : TokenView) (ask : Ask) → (t : AtTurn x p) → May ask p → Can ask t.facts.registry
   can x p Reserve t may = tt
@@ -151,6 +151,42 @@ module _ {S : Type 0} (tree_of : S → Node) (fits : S → Type 0) where
 
   pub found_can : (x : DeskValue S) (p : TokenView) (ask : Ask) → AtTurn x p → May ask p → Can ask (registry_of x)
   found_can x p ask t may = subst (λ (z : DeskValue S). Can ask (registry_of z)) (sym t.is) (can x p ask t may)
+
+  either_true : (a b : Bool) → a ≡ true → a || b ≡ true
+  either_true true b e = refl
+  either_true false b e = absurd (cc)
+
+  found_here : (s : ℕ) (ss : List ℕ) → has s (s ∷ ss) ≡ true
+  found_here s ss = either_true (s == s) (has s ss) (eq-eqb s s refl)
+
+  -- the slots of an answer are slots
+  small_of : (d : Deed) (x y : DeskValue S) (p : TokenView) → (t : AtTurn x p) → Makes x y d → Does d p (registry_of x) (registry_of y) → HasSmall d
+  small_of (deed.Reserve s stamp) x y p t m does = tt
+  small_of deed.Full x y p t m does = tt
+  small_of (deed.Free s) x y p t m does = tt
+  small_of (deed.Track s) x y p t m does = tt
+  small_of (deed.Unlink s) x y p t m does = tt
+  small_of (deed.Settle s a) x y p t m does = tt
+  small_of (deed.Snap w) x y p t m does = tt
+  small_of (deed.Unsnap w gone) x y p t m does = λ s is.
+      let h : History = history t.facts.log in
+      let rep : Replays h (registry_of x) = subst (λ (z : DeskValue S). Replays h (registry_of z)) (sym t.is) t.world.replays in
+      tracked_small (registry_of x).walkers h s rep.legal ((m.answers h rep s).0 is).0
+  small_of (deed.Head None) x y p t m does = tt
+  small_of (deed.Next r None) x y p t m does = tt
+  small_of (deed.Head (Some s)) x y p t m does =
+      let h : History = history t.facts.log in
+      let rep : Replays h (registry_of x) = subst (λ (z : DeskValue S). Replays h (registry_of z)) (sym t.is) t.world.replays in
+      let w : WalksIf (is_walking p.own) (registry_of x) h p.number (walk_of p.own) = subst (λ (z : DeskValue S). WalksIf (is_walking p.own) (registry_of z) h p.number (walk_of p.own)) (sym t.is) t.token.walk in
+      (walked_on (registry_of y) h p.number s (is_walking p.own) (s ∷ []) (m.replays h rep) does.0 (found_here s []) (deed_walk (deed.Head (Some s)) p (registry_of x) (registry_of y) h rep (m.answers h rep) does w)).0
+  small_of (deed.Next r (Some s)) x y p t m does =
+      let h : History = history t.facts.log in
+      let rep : Replays h (registry_of x) = subst (λ (z : DeskValue S). Replays h (registry_of z)) (sym t.is) t.world.replays in
+      let w : WalksIf (is_walking p.own) (registry_of x) h p.number (walk_of p.own) = subst (λ (z : DeskValue S). WalksIf (is_walking p.own) (registry_of z) h p.number (walk_of p.own)) (sym t.is) t.token.walk in
+      (walked_on (registry_of y) h p.number s (is_walking p.own) (s ∷ walk_of p.own) (m.replays h rep) does.0 (found_here s (walk_of p.own)) (deed_walk (deed.Next r (Some s)) p (registry_of x) (registry_of y) h rep (m.answers h rep) does w)).0
+
+  pub found_small : (d : Deed) (x y : DeskValue S) (p : TokenView) → AtTurn x p → Makes x y d → Does d p (registry_of x) (registry_of y) → HasSmall d
+  found_small d x y p t m does = small_of d x y p t m does
 
 -- what was done is what the token might do
 pub does_of : (ask : Ask) (d : Deed) (p : TokenView) (x y : Contents) → May ask p → Performed ask d x y → Does d p x y

@@ -1,5 +1,5 @@
 -- A desk begins under its rule.
-use Rattle.std.proofs.Common.{◌≡◌, ◌≢◌, ℕ, zero, suc, ◌<◌, ◌≤◌, ◌+◌, ◌*◌, List, [], ◌∷◌, map, replicate, true, Option, Some, None, refl, sym, ap, ◌∙◌, subst, inl, arith}
+use Rattle.std.proofs.Common.{◌≡◌, ℕ, zero, suc, ◌<◌, ◌+◌, List, [], ◌∷◌, map, replicate, length, true, Option, Some, refl, sym, ap, ◌∙◌, subst, inl, arith}
 use mathlib.Core.Option.{some, some-injective, some-ne-none}
 use lib.ListN.{get_elem?}
 use Rattle.node_forest.specs.Label.{Node}
@@ -10,8 +10,8 @@ use Rattle.record_rule.specs.declared.values.DeskValue.TheVariants.{List as List
 use Rattle.record_rule.specs.declared.views.Claim.TheVariants.{Nothing}
 use Rattle.record_rule.specs.declared.views.DeskView.{DeskView}
 use Rattle.record_rule.specs.declared.views.DeskView.TheVariants.{Root}
-use Rattle.record_rule.specs.World.{Facts, Fits, HasSlot, IsWorld, Stands, value_of}
-use Rattle.cordz_desk.specs.Fresh.{empty_record, IsNewRegistry, AreFresh}
+use Rattle.record_rule.specs.World.{Facts, Fits, Stands, value_of}
+use Rattle.cordz_desk.specs.Fresh.{empty_record, AreFresh}
 
 module _ {S : Type 0} (tree_of : S → Node) (fits : S → Type 0) where
   abbrev fresh_value : DeskValue S
@@ -21,6 +21,10 @@ module _ {S : Type 0} (tree_of : S → Node) (fits : S → Type 0) where
   in_records zero s less = absurd (omega arith)
   in_records (suc n) zero less = refl
   in_records (suc n) (suc s) less = in_records n s (omega arith)
+
+  records_many : (n : ℕ) → length (map value_of (map home (replicate n fresh_value))) ≡ n
+  records_many zero = refl
+  records_many (suc n) = ap suc (records_many n)
 
   abbrev first_facts : Contents → Facts
   first_facts r = record {
@@ -45,6 +49,7 @@ module _ {S : Type 0} (tree_of : S → Node) (fits : S → Type 0) where
     facts = first_facts fresh.0;
     world = record {
       first = refl;
+      count = ap suc (records_many 256);
       walkers = fresh.1.walkers;
       replays = fresh.1.replays;
       log = tt;

@@ -1,5 +1,5 @@
 -- What may be asked of a registry, and what is done then.
-use Rattle.std.specs.Prelude.{◌≡◌, ◌≢◌, ◌<◌, ◌⊎◌, ℕ, true, false, IsSome, Option, Some, None}
+use Rattle.std.specs.Prelude.{◌≡◌, ◌<◌, ◌⊎◌, ℕ, true, false, IfSome, IsSome, None}
 use Rattle.cordz_core.specs.declared.slot.SlotState.{SlotState}
 use Rattle.cordz_core.specs.declared.slot.SlotState.TheVariants.{Free as IsFree, Reserved, Linked, Leaving, Queued, Clearing}
 use Rattle.cordz_core.specs.Contents.{Contents, state_of, birth_of}
@@ -54,6 +54,13 @@ IsAnswerTo (Unsnap w) (deed.Unsnap v gone) = v ≡ w
 IsAnswerTo Head (deed.Head answer) = Unit {0}
 IsAnswerTo (Next s) (deed.Next t answer) = t ≡ s
 IsAnswerTo ask d = ⊥
+
+-- the slots that a deed's answer names
+abbrev pub HasSmall : Deed → Type 0
+HasSmall (deed.Head answer) = IfSome answer (λ s. s < 256)
+HasSmall (deed.Next t answer) = IfSome answer (λ s. s < 256)
+HasSmall (deed.Unsnap w gone) = (s : ℕ) → has s gone.items ≡ true → s < 256
+HasSmall d = Unit {0}
 
 -- what was done to the registry
 abbrev pub Performed : Ask → Deed → Contents → Contents → Type 0

@@ -1,5 +1,5 @@
 -- The values that a desk begins with.
-use Rattle.std.specs.Prelude.{◌≡◌, ℕ, List, [], ◌∷◌, replicate, Option, Some, None}
+use Rattle.std.specs.Prelude.{◌≡◌, ℕ, List, [], ◌∷◌, replicate, None}
 use Rattle.cordz_core.specs.declared.slot.SlotState.TheVariants.{Free}
 use Rattle.cordz_core.specs.Contents.{Contents, state_of, birth_of}
 use Rattle.cordz_core.specs.Legal.{Replays}

@@ -1,6 +1,11 @@
 pub mod Asking
+pub mod Closed
 pub mod Fresh
 pub mod Opened
+pub mod Owners
+pub mod Reading
+pub mod Reps
 pub mod Seeing
 pub mod Shares
+pub mod Tickets
 pub mod Tokens

@@ -3,7 +3,7 @@ use Rattle.std.specs.Prelude.{◌≡◌, ◌+◌, ℕ, List, [], map}
 use Rattle.node_pool.specs.Boxes.{below}
 use Rattle.record_rule.specs.declared.views.TokenView.{TokenView}
 use Rattle.record_rule.specs.declared.views.DeskView.{DeskView}
-use Rattle.record_rule.specs.declared.views.DeskView.TheVariants.{Root, Token, Ticket, Shown}
+use Rattle.record_rule.specs.declared.views.DeskView.TheVariants.{Root, Token}
 use Rattle.record_rule.specs.Views.{new_token}
 
 -- how many tokens the first one gave, and what those knew that came back

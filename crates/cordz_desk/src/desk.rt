@@ -2,12 +2,15 @@
 ghost use Rattle.std.specs.Prelude.{◌≡◌, ◌<◌, ◌≤◌, ◌+◌, ◌^◌, [], length};
 ghost use Rattle.turn_desk.specs.Passes.{desk_places, desk_view, IsOf, IsIdle, IsSamePass, HasTurn};
 ghost use Rattle.turn_desk.specs.Turns.{turn_place, turn_value, taken_value};
+ghost use Rattle.room_reserve.specs.Rooms.{room_of};
 ghost use Rattle.record_rule.specs.Log.{after_deed, made_of};
-ghost use Rattle.record_rule.specs.Steps.{Does, Makes, registry_of};
+ghost use Rattle.record_rule.specs.Steps.{Does, Leaves, Makes, registry_of};
 ghost use Rattle.record_rule.specs.Views.{done_view, token_in, most_actions, IsTokenView, HasDone};
 ghost use Rattle.record_rule.specs.declared.views.DeskView.{DeskView};
-ghost use Rattle.cordz_desk.specs.Asking.{May, IsAnswerTo};
+ghost use Rattle.cordz_desk.specs.Asking.{May, IsAnswerTo, HasSmall};
+ghost use Rattle.cordz_desk.specs.Reps.{rep_of, IsRep, FoundAt};
 ghost use Rattle.cordz_desk.specs.Seeing.{IsRootView};
+ghost use Rattle.cordz_desk.specs.Shares.{tree_in, IsShare};
 
 use crate::asking::{Ask, perform};
 use crate::naming::DeskNaming;
@@ -16,6 +19,7 @@ use crate::share::Share;
 use crate::tokens::Seated;
 use node_pool::Naming;
 use record_rule::{Deed, DeskView};
+use room_reserve::Reserve;
 use std::marker::{Brand, PhantomData};
 use std::sync::Wait;
 use turn_desk::{Desk, Leave, Turn};
@@ -25,12 +29,15 @@ pub struct CordzDesk<P: Naming, D: DeskNaming> {
     pub(crate) desk: Desk<RecordRule<Share<P>>>,
     // The first token. All passes come back to it at the end.
     pub(crate) root: Seated<P>,
+    // Room for the shares that `close` gives.
+    pub(crate) shares: Reserve<Share<P>>,
     pub(crate) of: PhantomData<D>,
     ghost named: { desk.table.shared.table_id ≡ D.desk },
     ghost places: { desk_places desk ≡ 257 },
     ghost rooted: { root.table_id ≡ D.desk },
     ghost idle: { IsIdle root },
     ghost first: { IsRootView (desk_view root) },
+    ghost room: { 257 ≤ room_of shares },
 }
 
 // Which view a token has after its turn, for clauses alone.
@@ -62,11 +69,49 @@ impl<P: Naming, D: DeskNaming> CordzDesk<P, D> {
         ensures token { IsTokenView (desk_view pass.new) }
         ensures done { HasDone (token_in (desk_view pass.old)) (token_in (desk_view pass.new)) result }
         ensures answer { IsAnswerTo ask result }
+        ensures small { HasSmall result }
     {
         let mut turn = self.desk.enter(rt, pass, 0);
         let deed = perform(turn.value(), ask);
         self.leave::<Brand>(pass, turn, &deed);
         deed
+    }
+
+    // Waits for the turn of a slot's record.
+    pub(crate) fn enter_record<R: Wait>(
+        &self,
+        rt: &R,
+        pass: &mut Seated<P>,
+        slot: u16,
+    ) -> Turn<RecordRule<Share<P>>>
+        requires desk { IsOf self.now.desk pass.old }
+        requires idle { IsIdle pass.old }
+        requires slot { slot < 256 }
+        ensures pass { IsSamePass pass.old pass.new × (desk_view pass.new ≡ desk_view pass.old) }
+        ensures turn { HasTurn pass.new (turn_place result) (taken_value result) }
+        ensures place { turn_place result ≡ slot + 1 }
+        ensures value { turn_value result ≡ taken_value result }
+        ensures rep { IsRep (taken_value result) }
+        ensures found { FoundAt slot (rep_of (taken_value result)) (desk_view pass.old) }
+    {
+        self.desk.enter(rt, pass, usize::from(slot) + 1)
+    }
+
+    // Leaves the turn of a slot's record for a view that the caller chose.
+    pub(crate) fn leave_to<B: Becoming>(
+        &self,
+        pass: &mut Seated<P>,
+        turn: Turn<RecordRule<Share<P>>>,
+        slot: u16,
+    )
+        requires desk { IsOf self.now.desk pass.old }
+        requires turn { HasTurn pass.old (turn_place turn) (taken_value turn) }
+        requires place { turn_place turn ≡ slot + 1 }
+        requires leaves { Leaves tree_in IsShare (turn_place turn) (taken_value turn) (turn_value turn) (desk_view pass.old) (B.after (desk_view pass.old)) }
+        ensures pass { IsSamePass pass.old pass.new × IsIdle pass.new }
+        ensures view { desk_view pass.new ≡ B.after (desk_view pass.old) }
+    {
+        self.desk.exit_to::<Becomes<B>>(pass, turn);
     }
 
     fn leave<B: Becoming>(

@@ -3,19 +3,29 @@
 #![tactic(auto)]
 
 mod asking;
+mod changes;
+mod closing;
 mod desk;
+mod handing;
 mod list;
 mod naming;
+mod reading;
 mod records;
+mod reps;
 mod rule;
 mod share;
 mod start;
+mod tickets;
 mod tokens;
+mod tracking;
+mod turns;
 mod walks;
 
 pub use desk::CordzDesk;
 pub use naming::DeskNaming;
+pub use reading::RecordRefused;
 pub use rule::RecordRule;
 pub use share::Share;
 pub use start::OpenedDesk;
+pub use tickets::{Change, Ticket};
 pub use tokens::{CordzPass, Reserved};

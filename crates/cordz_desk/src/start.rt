@@ -1,6 +1,7 @@
 //! How a desk of records begins: without a name, which the program then gives it.
 ghost use Rattle.std.specs.Prelude.{◌≡◌, ◌≤◌, ◌+◌, [], map, IfOk};
 ghost use Rattle.turn_desk.specs.Passes.{desk_places, desk_view, IsOf, IsIdle};
+ghost use Rattle.room_reserve.specs.Rooms.{room_of};
 ghost use Rattle.record_rule.specs.declared.views.DeskView.TheVariants.{Root};
 ghost use Rattle.cordz_desk.specs.Fresh.{AreFresh};
 
@@ -13,6 +14,7 @@ use cord_port::Memory;
 use cordz_core::Registry;
 use node_pool::Naming;
 use record_rule::{DeskValue, DeskView, Rep};
+use room_reserve::Reserve;
 use std::alloc::Global;
 use std::marker::PhantomData;
 use turn_desk::{Desk, DeskRefused, Split};
@@ -26,12 +28,14 @@ const WALKERS: u8 = 16;
 pub struct OpenedDesk<P: Naming> {
     pub(crate) desk: Desk<RecordRule<Share<P>>>,
     pub(crate) root: Seated<P>,
+    pub(crate) shares: Reserve<Share<P>>,
     pub(crate) walkers: u8,
     ghost places: { desk_places desk ≡ 257 },
     ghost rooted: { IsOf desk root },
     ghost idle: { IsIdle root },
     ghost first: { desk_view root ≡ Root 0 [] },
     ghost few: { walkers ≤ 16 },
+    ghost room: { 257 ≤ room_of shares },
 }
 
 // The next token.
@@ -73,11 +77,13 @@ impl<P: Naming> OpenedDesk<P> {
         requires { walkers ≤ 16 }
         ensures { IfOk result (λ o. opened_walkers o ≡ walkers) }
     {
+        let shares = Reserve::new(alloc, SLOTS + 1)?;
         let values = first_values(alloc)?;
         match Desk::start(alloc, values, &0) {
             Ok((desk, root)) => Ok(OpenedDesk {
                 desk,
                 root,
+                shares,
                 walkers,
             }),
             Err(DeskRefused { values: _ }) => Err(Memory),
@@ -95,6 +101,7 @@ impl<P: Naming> OpenedDesk<P> {
         let OpenedDesk {
             desk,
             mut root,
+            shares,
             walkers,
         } = self;
         let count = usize::from(walkers) + 1;
@@ -113,6 +120,7 @@ impl<P: Naming> OpenedDesk<P> {
         let desk = CordzDesk {
             desk,
             root,
+            shares,
             of: PhantomData,
         };
         Ok((desk, passes))

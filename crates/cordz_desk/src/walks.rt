@@ -1,5 +1,5 @@
 //! Snapshots, and walks from record to record.
-ghost use Rattle.std.specs.Prelude.{◌≡◌, ◌<◌, ◌≤◌, ◌+◌, ◌^◌, true, false};
+ghost use Rattle.std.specs.Prelude.{◌≡◌, ◌<◌, ◌≤◌, ◌+◌, ◌^◌, ℕ, true, false, IfSome};
 ghost use Rattle.cordz_core.specs.Queue.{has};
 ghost use Rattle.record_rule.specs.Log.{made_of, is_walking, walk_of};
 ghost use Rattle.record_rule.specs.Views.{HasDone};
@@ -30,7 +30,8 @@ impl<P: Naming, D: DeskNaming> CordzDesk<P, D> {
     pub fn first<R: Wait>(&self, rt: &R, pass: &mut CordzPass<P, D>) -> Option<u16>
         requires few { made_of (token_of pass.old).own < 2 ^ 34 }
         requires walking { is_walking (token_of pass.old).own ≡ true }
-        ensures { HasDone (token_of pass.old) (token_of pass.new) (Head result) }
+        ensures done { HasDone (token_of pass.old) (token_of pass.new) (Head result) }
+        ensures small { IfSome result (λ s. s < 256) }
     {
         match self.act(rt, &mut pass.pass, Ask::Head) {
             Deed::Head(answer) => answer,
@@ -43,7 +44,8 @@ impl<P: Naming, D: DeskNaming> CordzDesk<P, D> {
         requires few { made_of (token_of pass.old).own < 2 ^ 34 }
         requires walking { is_walking (token_of pass.old).own ≡ true }
         requires given { has slot (walk_of (token_of pass.old).own) ≡ true }
-        ensures { HasDone (token_of pass.old) (token_of pass.new) (Next slot result) }
+        ensures done { HasDone (token_of pass.old) (token_of pass.new) (Next slot result) }
+        ensures small { IfSome result (λ s. s < 256) }
     {
         match self.act(rt, &mut pass.pass, Ask::Next(slot)) {
             Deed::Next(_, answer) => answer,
@@ -55,7 +57,8 @@ impl<P: Naming, D: DeskNaming> CordzDesk<P, D> {
     pub fn end_snapshot<R: Wait>(&self, rt: &R, pass: &mut CordzPass<P, D>) -> ArrayVec<u16, 256>
         requires few { made_of (token_of pass.old).own < 2 ^ 34 }
         requires walking { is_walking (token_of pass.old).own ≡ true }
-        ensures { HasDone (token_of pass.old) (token_of pass.new) (Unsnap (token_of pass.old).number result) }
+        ensures done { HasDone (token_of pass.old) (token_of pass.new) (Unsnap (token_of pass.old).number result) }
+        ensures small { (s : ℕ) → has s result.items ≡ true → s < 256 }
     {
         match self.act(rt, &mut pass.pass, Ask::Unsnap(pass.number)) {
             Deed::Unsnap(_, gone) => gone,

@@ -132,6 +132,7 @@ pub data Meaning : Type 0 where
 
 abbrev pub meaning : Command → Meaning
 meaning (commands.Let a text) = Sets a (text_bytes text)
+meaning (commands.Ext a text) = Sets a (text_bytes text)
 meaning (commands.Copy a b) = Copies a b
 meaning (commands.Sub a pos n b) = Derives a (λ bytes. take n (drop pos bytes)) b
 meaning (commands.Clear a) = Edits a Clears

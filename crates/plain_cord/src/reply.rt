@@ -42,6 +42,14 @@ pub enum Reply {
     Length { asked: u64 },
     /// A cell of the board was found empty.
     Empty { cell: u8 },
+    /// The session has no box of releasers left.
+    Releasers,
+    /// A node of height 12 is needed.
+    Height,
+    /// So many live passes were found, at least the limit.
+    Cords { found: u64 },
+    /// Each of the pool's numbers, so many, was found in use.
+    Pool { size: u32 },
 }
 
 /// A session's answers, one for each of its commands.

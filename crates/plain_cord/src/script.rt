@@ -16,6 +16,11 @@ pub enum Command {
         a: Items<u8>,
         text: Text,
     },
+    /// As `Let`; over trees of nodes the bytes are an external node with a releaser of its own.
+    Ext {
+        a: Items<u8>,
+        text: Text,
+    },
     Copy {
         a: Items<u8>,
         b: Items<u8>,

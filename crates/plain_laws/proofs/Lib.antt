@@ -11,3 +11,4 @@ pub mod ReplayLaws
 pub mod AloneLaws
 pub mod PutLaws
 pub mod ActionLaws
+pub mod ByteReplies

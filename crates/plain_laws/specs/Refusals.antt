@@ -8,4 +8,16 @@ IsRefusal replies.NoBytes = Unit {0}
 IsRefusal (replies.Position asked n) = Unit {0}
 IsRefusal (replies.Length asked) = Unit {0}
 IsRefusal (replies.Empty cell) = Unit {0}
+IsRefusal replies.Releasers = Unit {0}
+IsRefusal replies.Height = Unit {0}
+IsRefusal (replies.Cords found) = Unit {0}
+IsRefusal (replies.Pool size) = Unit {0}
 IsRefusal _ = ⊥
+
+-- The answers of byte strings. The others tell that a box, a height, a pass or a number is wanting, which only trees need.
+abbrev pub IsByteReply : Reply → Type 0
+IsByteReply replies.Releasers = ⊥
+IsByteReply replies.Height = ⊥
+IsByteReply (replies.Cords found) = ⊥
+IsByteReply (replies.Pool size) = ⊥
+IsByteReply _ = Unit {0}

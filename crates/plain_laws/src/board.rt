@@ -4,7 +4,7 @@ ghost use Rattle.plain_cord.specs.declared.script.Command.{Command as Command_va
 ghost use Rattle.plain_cord.specs.States.{SameNames};
 ghost use Rattle.plain_cord.specs.Effects.{SessionState, Cells, Effect, PlainEffect};
 ghost use Rattle.plain_laws.specs.Targets.{target, cell_of};
-ghost use Rattle.plain_laws.specs.Refusals.{IsRefusal};
+ghost use Rattle.plain_laws.specs.Refusals.{IsRefusal, IsByteReply};
 
 /// A refused command, of those that come to the board too, changes neither a name nor a cell.
 pub fn refused_actions_change_nothing()
@@ -20,4 +20,10 @@ pub fn other_names_and_cells_stay()
         → PlainEffect p state cells command e → target command ≢ Some name → e.state.names name ≡ state.names name }
     ensures cells { (p : ℕ) (state : SessionState) (cells : Cells) (command : Command_value) (e : Effect) (cell : ℕ) → PlainEffect p state cells command e
         → cell_of command ≢ Some cell → slice_get e.cells cell ≡ slice_get cells cell }
+{}
+
+/// On byte strings and cells no command is refused for want of a box, a height, a pass or a number.
+pub fn byte_strings_want_nothing()
+    ensures { (p : ℕ) (state : SessionState) (cells : Cells) (command : Command_value) (e : Effect) → PlainEffect p state cells command e
+        → IsByteReply e.reply }
 {}

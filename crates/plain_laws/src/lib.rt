@@ -10,7 +10,9 @@ mod orders;
 mod runs;
 mod sums;
 
-pub use board::{other_names_and_cells_stay, refused_actions_change_nothing};
+pub use board::{
+    byte_strings_want_nothing, other_names_and_cells_stay, refused_actions_change_nothing,
+};
 pub use changes::{cuts_are_parts, other_names_stay, refusals_change_nothing};
 pub use histories::{histories_replay, histories_tell_each_action, taken_cords_were_put};
 pub use orders::{first_place_is_one, order_is_total};

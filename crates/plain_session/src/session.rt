@@ -45,7 +45,9 @@ impl<'a> Names<'a> {
         ensures free { IsFreeCommand (environment_of self.old) command.now → IsOk result }
     {
         match command {
-            Command::Let { a, text } => Ok(Ran::Answered(self.set_text(a.as_slice(), text)?)),
+            Command::Let { a, text } | Command::Ext { a, text } => {
+                Ok(Ran::Answered(self.set_text(a.as_slice(), text)?))
+            }
             Command::Clear { a } => Ok(Ran::Answered(self.change(a.as_slice(), Edit::Clear)?)),
             Command::Append { a, text } => {
                 let edit = Edit::Append(text.piece.as_slice(), text.times);

@@ -1,19 +1,21 @@
 //! Boxes below a Branch that is finished, and boxes of a pool that isn't started.
-ghost use Rattle.std.specs.Prelude.{◌≡◌, ◌≤◌, [], ◌∷◌, length, All, IfSome};
+ghost use Rattle.std.specs.Prelude.{◌≡◌, ◌<◌, ◌≤◌, [], ◌∷◌, length, All, IfSome};
 ghost use Rattle.cord_port.specs.Logs.{log_calls};
 ghost use Rattle.node_edges.specs.Ways.{branches_down};
 ghost use Rattle.pool_rule.specs.Trades.{HasHolds, Trades};
 ghost use Rattle.node_pool.specs.Opened.{opened_table, opened_numbers, opened_passes, opened_workers, opened_boxes};
 
 use cord_port::{LogReleaser, Releaser};
+use cord_value::Cord;
 use node_pool::{Body, Closed, Edge, Naming, Opened, Pool, PoolRefused, Worker};
 use std::alloc::Global;
 use std::marker::Brand;
 
 type Boxes = LogReleaser;
 
-/// A pool of 8 numbers with one worker and one box.
-fn with_box(alloc: Global) -> Option<Opened<Boxes>>
+/// A pool of 8 numbers and so many passes with one worker and one box.
+fn with_box(alloc: Global, passes: u32) -> Option<Opened<Boxes>>
+    requires passes { (0 < passes) × (passes ≤ 2) }
     ensures numbers { IfSome result (λ o. opened_numbers o ≡ 8) }
     ensures workers { IfSome result (λ o. opened_workers o ≡ 1) }
     ensures slots { IfSome result (λ o. (opened_table o).slots ≡ 1) }
@@ -25,7 +27,7 @@ fn with_box(alloc: Global) -> Option<Opened<Boxes>>
     let Ok(()) = releasers.push(log) else {
         return None;
     };
-    let Ok(opened) = Opened::start(alloc, 8, 1, 1, releasers) else {
+    let Ok(opened) = Opened::start(alloc, 8, passes, 1, releasers) else {
         return None;
     };
     Some(opened)
@@ -155,9 +157,58 @@ fn a_finished_branch_calls_the_box_of_an_external_that_nobody_else_holds(rt: Hos
         (Ending::BesideAHold, (1, 0, None)),
         (Ending::BeforeTheHold, (0, 1, Some(20))),
     ] {
-        let opened = with_box(rt.alloc()).expect(&rt, "memory");
+        let opened = with_box(rt.alloc(), 1).expect(&rt, "memory");
         let seen = ended::<Brand>(rt.alloc(), opened, ending);
         assert_eq!(rt; seen, Some(wanted), "at {ending:?}");
+    }
+}
+
+/// A cord over an external of 100 bytes, and a cord of 50 of them; the first is released, and then perhaps the second.
+fn released<P: Naming>(
+    alloc: Global,
+    pool: &Pool<P, Boxes>,
+    w: &mut Worker<P>,
+    both: bool,
+) -> Option<()>
+    requires empty { w.old.holds ≡ [] }
+{
+    let bytes = vec![in alloc; 120u8; 100].ok()?;
+    let mut whole = Cord::from_external(alloc, pool, w, bytes.as_slice()).ok()?;
+    let part = whole.sub(alloc, pool, w, 10, 50).ok()?;
+    whole.release(pool, w);
+    if both {
+        part.release(pool, w);
+    }
+    Some(())
+}
+
+/// How many numbers are in use then, how often the box was called, and its latest length.
+fn called<P: Naming>(
+    alloc: Global,
+    opened: Opened<Boxes>,
+    both: bool,
+) -> Option<(u32, u64, Option<u64>)>
+    requires table { (opened_table opened ≡ P.table) × (P.table.slots ≡ 1) }
+    requires numbers { opened_numbers opened ≡ P.size }
+    requires passes { opened_passes opened ≡ P.limit }
+    requires workers { (opened_workers opened ≡ P.workers) × (P.workers ≡ 1) }
+    requires boxes { opened_boxes opened ≡ P.boxes }
+{
+    let Ok((pool, mut workers)) = opened.named::<P>(alloc) else {
+        return None;
+    };
+    released(alloc, &pool, &mut workers[0], both)?;
+    let Closed { in_use, releasers } = pool.close(workers);
+    let first = releasers.first()?;
+    Some((in_use, first.calls(), first.latest()))
+}
+
+#[test]
+fn the_box_of_an_external_is_called_when_the_last_cord_over_it_has_gone(rt: HostRuntime) {
+    for (both, wanted) in [(false, (2u32, 0u64, None)), (true, (0, 1, Some(100u64)))] {
+        let opened = with_box(rt.alloc(), 2).expect(&rt, "memory");
+        let seen = called::<Brand>(rt.alloc(), opened, both);
+        assert_eq!(rt; seen, Some(wanted), "both released: {both}");
     }
 }
 

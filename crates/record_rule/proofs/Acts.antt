@@ -1,38 +1,37 @@
 -- An action or a read of the registry, by kind, as a step under the rule of the desk.
-use Rattle.std.proofs.Common.{◌≡◌, ◌≢◌, ◌⊎◌, ℕ, zero, suc, ◌<◌, ◌≤◌, ◌+◌, ◌-◌, List, [], ◌∷◌, Bool, true, false, cond, eqb, set, length, MatchOption, Option, Some, None, refl, sym, ap, ◌∙◌, subst, inl, inr, ⊎_elim, arith, eq-eqb, ne_eqb, eqb-true}
-use Rattle.std.specs.Prelude.{◌||◌, ◌==◌, ◌↔◌}
-use mathlib.Core.Option.{some, some-injective, some-ne-none}
+use Rattle.std.proofs.Common.{◌≡◌, ◌≢◌, ℕ, ◌<◌, ◌≤◌, ◌+◌, List, [], ◌∷◌, Bool, true, false, cond, set, length, Option, Some, None, refl, sym, ap, ◌∙◌, subst, inl, inr, ⊎_elim, arith, eq-eqb, ne_eqb, length-set}
+use mathlib.Core.Option.{some}
 use lib.ListN.{get_elem?}
 use Rattle.atomic_table.proofs.Lists.{set_else}
 use Rattle.node_forest.specs.Label.{Node}
 use Rattle.cordz_core.specs.declared.slot.SlotState.{SlotState}
-use Rattle.cordz_core.specs.declared.slot.SlotState.TheVariants.{Free as IsFree, Reserved, Linked, Leaving, Queued as Waits, Clearing}
+use Rattle.cordz_core.specs.declared.slot.SlotState.TheVariants.{Free as IsFree, Linked, Leaving, Queued as Waits, Clearing}
 use Rattle.cordz_core.specs.declared.answers.Settled.{Settled}
 use Rattle.cordz_core.specs.declared.answers.Settled.TheVariants.{Deleted, Queued}
-use Rattle.cordz_core.specs.Contents.{Contents, state_of, birth_of}
-use Rattle.cordz_core.specs.History.{History, Reserves, stamp_in, stamps_given}
+use Rattle.cordz_core.specs.Contents.{Contents, state_of}
+use Rattle.cordz_core.specs.History.{Reserves, stamp_in, stamps_given}
 use Rattle.cordz_core.specs.Legal.{Replays}
-use Rattle.cordz_core.specs.Links.{Moves, moved_to}
+use Rattle.cordz_core.specs.Links.{Moves}
 use Rattle.record_rule.specs.declared.values.DeskValue.{DeskValue}
 use Rattle.record_rule.specs.declared.values.DeskValue.TheVariants.{List as Lists, Record}
 use Rattle.record_rule.specs.declared.values.Rep.{Rep}
 use Rattle.record_rule.specs.declared.views.Claim.{Claim}
 use Rattle.record_rule.specs.declared.views.Claim.TheVariants.{Nothing, Promised, Written, Owned, Unlinked, Cleared, Emptied}
 use Rattle.record_rule.specs.declared.views.Deed.{Deed}
-use Rattle.record_rule.specs.declared.views.Deed.TheVariants.{Reserve, Full, Free, Track, Unlink, Settle, Snap, Unsnap, Head, Next}
+use Rattle.record_rule.specs.declared.views.Deed.TheVariants.{Reserve, Free, Track, Unlink, Settle}
 use Rattle.record_rule.specs.declared.views.LogEntry.{LogEntry}
 use Rattle.record_rule.specs.declared.views.Noted.{Noted}
 use Rattle.record_rule.specs.declared.views.TokenView.{TokenView}
 use Rattle.record_rule.specs.declared.views.DeskView.{DeskView}
-use Rattle.record_rule.specs.declared.views.DeskView.TheVariants.{Root, Token, Ticket, Shown}
+use Rattle.record_rule.specs.declared.views.DeskView.TheVariants.{Token}
 use Rattle.record_rule.specs.Log.{after_deed, history, IsAnswer, made_of, is_walking, walk_of}
 use Rattle.record_rule.specs.Notes.{AllUntracked}
 use Rattle.record_rule.specs.Steps.{Does, MayFree, IsWritten, IsOwned, IsUnlinked}
 use Rattle.record_rule.specs.Views.{claim_at, done, linked_claim, unlinked_claim, settled_claim, untracked_by, most_actions}
-use Rattle.record_rule.specs.World.{Facts, Has, IsToken, IsSlot, HasSlot, IsWorld, is_bare}
+use Rattle.record_rule.specs.World.{Facts, Has, IsToken, IsSlot, IsWorld}
 use Rattle.record_rule.proofs.Deeds.{deed_room, deed_walk, entry_of, own_entry, follows_entry}
 use Rattle.record_rule.proofs.Moving.{Follows, moved, grows_moved, token_moved, world_moved, set_there}
-use Rattle.record_rule.proofs.Others.{Grows, untracked_stay}
+use Rattle.record_rule.proofs.Others.{untracked_stay}
 use Rattle.record_rule.proofs.Slots.{changed, changed_here, stamp_given}
 
 module _ {S : Type 0} (tree_of : S → Node) (fits : S → Type 0) where
@@ -52,7 +51,7 @@ module _ {S : Type 0} (tree_of : S → Node) (fits : S → Type 0) where
   later_records : (values : List (DeskValue S)) (q : Contents) (t : ℕ) → get_elem? (set values 0 (Lists q)) (t + 1) ≡ get_elem? values (t + 1)
   later_records values q t = set_else values 0 (t + 1) (Lists q) (λ e. omega arith)
 
-  free_claim : (c : Claim) (state : SlotState) (s stamp at : ℕ) (live : Bool) (notes : List Noted) (r : Rep S) → state ≡ IsFree → IsSlot tree_of fits c state s stamp at live notes r → (c ≡ Nothing) × (r.hold ≡ None)
+  pub free_claim : (c : Claim) (state : SlotState) (s stamp at : ℕ) (live : Bool) (notes : List Noted) (r : Rep S) → state ≡ IsFree → IsSlot tree_of fits c state s stamp at live notes r → (c ≡ Nothing) × (r.hold ≡ None)
   free_claim Nothing state s stamp at live notes r e (inl k) = (refl, k.1)
   free_claim Nothing state s stamp at live notes r e (inr k) = absurd (let z = sym k.0 ∙ e in cc)
   free_claim (Promised own) state s stamp at live notes r e k = absurd (let z = sym k.0 ∙ e in cc)
@@ -86,7 +85,7 @@ module _ {S : Type 0} (tree_of : S → Node) (fits : S → Type 0) where
         let here : stamp_in (Reserves s ∷ history g.log) s ≡ stamp = ap (λ b. cond b (stamps_given (history g.log) + 1) (stamp_in (history g.log) s)) (eq-eqb s s refl) ∙ sym new in (
           moved g by log q s (Promised stamp) stamp s true [],
           world_moved tree_of fits g values (set values 0 (Lists q)) views by (Token p) (Token (done place (Reserve s stamp) p)) log q s (Promised stamp) stamp s true [] a.world a.seen f
-              (set_there values 0 _ _ a.world.first)
+              (set_there values 0 _ _ a.world.first) (length-set values 0 (Lists q))
               (deed_room (Reserve s stamp) p.own (history g.log) a.few)
               (λ t not. (later_records values q t, m.others t not, ap (λ b. cond b (stamps_given (history g.log) + 1) (stamp_in (history g.log) t)) (ne_eqb t s not)))
               (λ t not same. absurd (let z = stamp_given (history g.log) t in omega arith))
@@ -132,7 +131,7 @@ module _ {S : Type 0} (tree_of : S → Node) (fits : S → Type 0) where
           moved g by log q s c stamp at lives list,
           subst (λ (z : TokenView). IsWorld tree_of fits (moved g by log q s c stamp at lives list) (set values 0 (Lists q)) (set views by (Some (Token z)))) (sym on.clauses)
               (world_moved tree_of fits g values (set values 0 (Lists q)) views by (Token p) (Token w) log q s c stamp at lives list a.world a.seen f
-              (set_there values 0 _ _ a.world.first)
+              (set_there values 0 _ _ a.world.first) (length-set values 0 (Lists q))
               (deed_room d p.own (history g.log) a.few)
               (λ t not. (later_records values q t, on.moves.others t not, on.stamps t))
               (λ t not same here. not (sym here ∙ on.at))
@@ -267,7 +266,7 @@ module _ {S : Type 0} (tree_of : S → Node) (fits : S → Type 0) where
     settles s Deleted q a (Unlinked own bare) e may =
         let h = mine (Settle s Deleted) q s (Unlinked own bare) a e (λ z. cc) in
         let o = slot_of (Settle s Deleted) q s (Unlinked own bare) a h in
-        acts_on (Settle s Deleted) q s (Cleared (Some bare)) (g.live (stamp_in (history g.log) s)) p.untracked a record {
+        acts_on (Settle s Deleted) q s (Cleared (Some (own, bare))) (g.live (stamp_in (history g.log) s)) p.untracked a record {
           small = h.0;
           owner = h.1;
           at = o.2.4.0;
@@ -277,8 +276,8 @@ module _ {S : Type 0} (tree_of : S → Node) (fits : S → Type 0) where
           stamps = λ t. refl;
           rep = o.0;
           there = o.1;
-          is = (refl, o.2.1, o.2.3, o.2.4);
-          untracked = untracked_same (Settle s Deleted) q s (Cleared (Some bare)) (g.live (stamp_in (history g.log) s)) a (subst (Has g by s) (sym e) h) (λ z. z);
+          is = (refl, o.2.1, (o.2.2, o.2.3), o.2.4);
+          untracked = untracked_same (Settle s Deleted) q s (Cleared (Some (own, bare))) (g.live (stamp_in (history g.log) s)) a (subst (Has g by s) (sym e) h) (λ z. z);
           clauses = ap (λ (z : Claim). record { number = p.number; own = entry_of p place (Settle s Deleted) ∷ p.own; claims = (s, settled_claim Deleted z) ∷ p.claims; reads = p.reads; untracked = p.untracked; shown = p.shown }) e;
         }
     settles s Queued q a (Unlinked own bare) e may =

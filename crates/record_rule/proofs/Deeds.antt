@@ -1,29 +1,20 @@
 -- What each deed does to the log, to walks, and to what is left.
-use Rattle.std.proofs.Common.{◌≡◌, ◌≢◌, ◌⊎◌, ℕ, zero, suc, ◌<◌, ◌≤◌, ◌+◌, ◌-◌, List, [], ◌∷◌, Bool, true, false, cond, eqb, length, Option, Some, None, refl, sym, ap, ◌∙◌, subst, inl, inr, ⊎_elim, arith, eq-eqb, ne_eqb, eqb-true}
-use Rattle.std.specs.Prelude.{◌||◌, ◌==◌, ◌↔◌}
-use Rattle.cordz_core.specs.declared.slot.SlotState.{SlotState}
-use Rattle.cordz_core.specs.declared.slot.SlotState.TheVariants.{Free as IsFree, Reserved, Linked, Leaving, Queued as Waits, Clearing}
-use Rattle.cordz_core.specs.declared.answers.Settled.{Settled}
-use Rattle.cordz_core.specs.declared.answers.Settled.TheVariants.{Deleted, Queued}
-use Rattle.cordz_core.specs.Contents.{Contents, state_of, birth_of}
-use Rattle.cordz_core.specs.History.{Action, History, Reserves, Frees, Tracks, Unlinks, Settles, Snaps, Unsnaps, Use, Nobody, Holder, Tracked, use_of, stamp_in, stamps_given}
+use Rattle.std.proofs.Common.{◌≡◌, ◌≢◌, ℕ, ◌<◌, ◌≤◌, ◌+◌, ◌-◌, List, [], ◌∷◌, Bool, true, false, cond, eqb, length, Option, Some, None, refl, sym, ap, ◌∙◌, subst, arith, eq-eqb, ne_eqb, eqb-true}
+use Rattle.cordz_core.specs.declared.slot.SlotState.TheVariants.{Queued as Waits, Clearing}
+use Rattle.cordz_core.specs.Contents.{Contents, birth_of}
+use Rattle.cordz_core.specs.History.{History, Reserves, Frees, Tracks, Unlinks, Settles, Snaps, Unsnaps, Use, Nobody, Holder, Tracked, use_of, stamps_given}
 use Rattle.cordz_core.specs.Legal.{Replays, IsLegal, IsDeletionOf, state_after, state_for, course_of, head_after, next_after}
-use Rattle.cordz_core.specs.Links.{Moves, Begins, Ends}
-use Rattle.cordz_core.specs.Queue.{has}
-use Rattle.cordz_core.specs.Times.{RecordTimes, SnapshotTimes, Course, Stays, Left, Done, records, snapshots, record_in, deleted_at, IsDeletionPlace}
-use Rattle.cordz_core.specs.Walks.{BecomesClearing}
-use Rattle.record_rule.specs.declared.views.Claim.{Claim}
-use Rattle.record_rule.specs.declared.views.Claim.TheVariants.{Nothing, Promised, Written, Owned, Unlinked, Cleared, Emptied}
+use Rattle.cordz_core.specs.Times.{RecordTimes, SnapshotTimes, Course, Stays, Left, Done, deleted_at}
 use Rattle.record_rule.specs.declared.views.Deed.{Deed}
 use Rattle.record_rule.specs.declared.views.Deed.TheVariants.{Reserve, Full, Free, Track, Unlink, Settle, Snap, Unsnap, Head, Next}
 use Rattle.record_rule.specs.declared.views.LogEntry.{LogEntry}
 use Rattle.record_rule.specs.declared.views.TokenView.{TokenView}
 use Rattle.record_rule.specs.Log.{after_deed, history, IsAnswer, IsLog, of_token, made_of, is_walking, walking_after, walk_of, walk_after, found_on}
 use Rattle.record_rule.specs.Steps.{Does}
-use Rattle.record_rule.specs.Views.{claim_at, nothing_left, most_actions}
-use Rattle.record_rule.specs.World.{Facts, WalksIf, IsToken, IsWorld}
+use Rattle.record_rule.specs.Views.{most_actions}
+use Rattle.record_rule.specs.World.{Facts, WalksIf, IsToken}
 use Rattle.record_rule.proofs.Moving.{Follows}
-use Rattle.record_rule.proofs.Walks.{IsOut, out_of, walks_on, walks_same, begun, stepped}
+use Rattle.record_rule.proofs.Walks.{out_of, walks_on, walks_same, begun, stepped}
 
 pub deed_length : (d : Deed) (h : History) → length (after_deed d h) ≡ length (after_deed d []) + length h
 deed_length (Reserve s stamp) h = omega arith

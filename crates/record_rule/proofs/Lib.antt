@@ -1,4 +1,5 @@
 pub mod Acts
+pub mod Changes
 pub mod Deeds
 pub mod Laws
 pub mod Moving

@@ -1,30 +1,27 @@
 -- A step of one token: what it has to show, so that the rule of the desk survives it.
-use Rattle.std.proofs.Common.{◌≡◌, ◌≢◌, ◌⊎◌, ℕ, zero, suc, ◌<◌, ◌≤◌, ◌+◌, ◌-◌, ◌*◌, List, [], ◌∷◌, ◌++◌, Bool, true, false, cond, eqb, set, length, Option, Some, None, refl, sym, ap, ◌∙◌, subst, inl, inr, ⊎_elim, arith, eq-eqb, ne_eqb}
+use Rattle.std.proofs.Common.{◌≡◌, ◌≢◌, ◌⊎◌, ℕ, zero, suc, ◌<◌, ◌≤◌, ◌+◌, List, [], ◌∷◌, ◌++◌, Bool, false, cond, set, length, Option, Some, None, refl, sym, ap, ◌∙◌, subst, inl, inr, ⊎_elim, arith, eq-eqb, ne_eqb}
 use mathlib.Core.Logic.{dite}
 use native.Mathlib.Decide.{ℕ_discrete}
 use mathlib.Core.Option.{some, some-injective, some-ne-none}
 use lib.ListN.{get_elem?}
 use Rattle.atomic_table.proofs.Lists.{at_set}
 use Rattle.node_forest.specs.Label.{Node}
-use Rattle.cordz_core.specs.declared.slot.SlotState.{SlotState}
 use Rattle.cordz_core.specs.Contents.{Contents, state_of, birth_of}
-use Rattle.cordz_core.specs.History.{History, stamp_in, stamps_given}
+use Rattle.cordz_core.specs.History.{stamp_in, stamps_given}
 use Rattle.cordz_core.specs.Legal.{Replays}
 use Rattle.record_rule.specs.declared.values.DeskValue.{DeskValue}
-use Rattle.record_rule.specs.declared.values.DeskValue.TheVariants.{List as Lists, Record}
-use Rattle.record_rule.specs.declared.values.Rep.{Rep}
+use Rattle.record_rule.specs.declared.values.DeskValue.TheVariants.{List as Lists}
 use Rattle.record_rule.specs.declared.views.Claim.{Claim}
 use Rattle.record_rule.specs.declared.views.Claim.TheVariants.{Nothing}
 use Rattle.record_rule.specs.declared.views.LogEntry.{LogEntry}
 use Rattle.record_rule.specs.declared.views.Noted.{Noted}
 use Rattle.record_rule.specs.declared.views.TokenView.{TokenView}
 use Rattle.record_rule.specs.declared.views.DeskView.{DeskView}
-use Rattle.record_rule.specs.declared.views.DeskView.TheVariants.{Root, Token, Ticket, Shown}
 use Rattle.record_rule.specs.Log.{history, IsLog, of_token, is_walking, walk_of}
-use Rattle.record_rule.specs.Notes.{GrowsTo, AreNotes, AllRead, AllUntracked, AllShown}
-use Rattle.record_rule.specs.Views.{claim_at, left_of, all_left, most_tokens, most_actions}
-use Rattle.record_rule.specs.World.{Facts, WalksIf, Has, IsToken, Fits, IsSlot, IsSlotIn, HasSlot, IsWorld}
-use Rattle.record_rule.proofs.Others.{Grows, stays, reads_stay, shown_stay, claims_stay}
+use Rattle.record_rule.specs.Notes.{GrowsTo, AreNotes, AllUntracked}
+use Rattle.record_rule.specs.Views.{claim_at, left_of, all_left}
+use Rattle.record_rule.specs.World.{Facts, WalksIf, Has, IsToken, Fits, HasSlot, IsWorld}
+use Rattle.record_rule.proofs.Others.{Grows, stays, reads_stay, shown_stay}
 use Rattle.record_rule.proofs.Slots.{changed, changed_here, changed_else, slot_other}
 
 pub set_there : {A : Type 0} (l : List A) (i : ℕ) (x y : A) → get_elem? l i ≡ some x → get_elem? (set l i y) i ≡ some y
@@ -129,7 +126,7 @@ views_next g k views by w grows mine each j v e = ⊎_elim
 module _ {S : Type 0} (tree_of : S → Node) (fits : S → Type 0) where
   pub world_moved : (g : Facts) (values values' : List (DeskValue S)) (views : List (Option DeskView)) (by : ℕ) (v w : DeskView) (log : List LogEntry) (registry : Contents) (s : ℕ) (c : Claim) (stamp at : ℕ) (lives : Bool) (list : List Noted)
       → IsWorld tree_of fits g values views → get_elem? views by ≡ some (Some v) → Follows g by log registry
-      → get_elem? values' 0 ≡ some (Lists registry)
+      → get_elem? values' 0 ≡ some (Lists registry) → length values' ≡ length values
       → left_of (Some w) + length (history log) ≤ left_of (Some v) + length (history g.log)
       → ((t : ℕ) → t ≢ s → (get_elem? values' (t + 1) ≡ get_elem? values (t + 1)) × (state_of registry t ≡ state_of g.registry t) × (stamp_in (history log) t ≡ stamp_in (history g.log) t))
       → ((t : ℕ) → t ≢ s → stamp_in (history g.log) t ≡ stamp → g.slot stamp ≢ t)
@@ -138,8 +135,9 @@ module _ {S : Type 0} (tree_of : S → Node) (fits : S → Type 0) where
       → Grows (λ j. j ≡ by) g (moved g by log registry s c stamp at lives list)
       → Fits (moved g by log registry s c stamp at lives list) by (Some w)
       → IsWorld tree_of fits (moved g by log registry s c stamp at lives list) values' (set views by (Some w))
-  world_moved g values values' views by v w log registry s c stamp at lives list world seen follows first left others apart mine noted born grows fitting = record {
+  world_moved g values values' views by v w log registry s c stamp at lives list world seen follows first count left others apart mine noted born grows fitting = record {
     first = first;
+    count = count ∙ world.count;
     walkers = follows.walkers ∙ world.walkers;
     replays = follows.replays;
     log = follows.logged;

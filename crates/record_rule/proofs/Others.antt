@@ -1,14 +1,13 @@
 -- What a step of one token leaves to the others.
-use Rattle.std.proofs.Common.{◌≡◌, ◌≢◌, ◌⊎◌, ℕ, ◌<◌, ◌≤◌, List, [], ◌∷◌, Bool, true, false, Option, Some, None, refl, sym, ap, ◌∙◌, subst, inl, inr, ⊎_elim, arith}
-use Rattle.cordz_core.specs.Contents.{Contents}
+use Rattle.std.proofs.Common.{◌≡◌, ◌≢◌, ◌⊎◌, ℕ, ◌<◌, ◌≤◌, List, [], ◌∷◌, Bool, false, Option, Some, None, refl, sym, ◌∙◌, subst, inl, inr, ⊎_elim, arith}
 use Rattle.record_rule.specs.declared.views.Claim.{Claim}
 use Rattle.record_rule.specs.declared.views.Claim.TheVariants.{Nothing, Promised, Written, Owned, Unlinked, Cleared, Emptied}
 use Rattle.record_rule.specs.declared.views.Noted.{Noted}
 use Rattle.record_rule.specs.declared.views.TokenView.{TokenView}
 use Rattle.record_rule.specs.declared.views.DeskView.{DeskView}
-use Rattle.record_rule.specs.declared.views.DeskView.TheVariants.{Root, Token, Ticket, Shown}
+use Rattle.record_rule.specs.declared.views.DeskView.TheVariants.{Root, Token, Ticket, Lent}
 use Rattle.record_rule.specs.Log.{history, of_token, is_walking, walk_of}
-use Rattle.record_rule.specs.Notes.{IsNoteOf, NoneAbove, ReachesTo, GrowsTo, AllRead, AllShown, AllUntracked, AreNotes}
+use Rattle.record_rule.specs.Notes.{IsNoteOf, NoneAbove, ReachesTo, GrowsTo, AllRead, AllShown, AllUntracked}
 use Rattle.record_rule.specs.Views.{claim_at}
 use Rattle.record_rule.specs.World.{Facts, WalksIf, Has, IsToken, AreTokens, Fits}
 
@@ -94,4 +93,4 @@ module _ (touched : ℕ → Type 0) (g k : Facts) (grows : Grows touched g k) wh
       (f.0 ∙ sym grows.root, f.1 ∙ sym (grows.same (λ t. apart (subst touched (sym f.0) t))), tokens_stay by back apart f.2)
   stays by (Some (Token p)) apart f = token_stays by p apart f
   stays by (Some (Ticket s stamp notes bare)) apart f = has_stays by s (Owned stamp notes bare) apart (λ e. cc) f
-  stays by (Some (Shown stamp update)) apart f = reaches_grows update (g.notes stamp) (k.notes stamp) (grows.notes stamp) f
+  stays by (Some Lent) apart f = tt

@@ -1,20 +1,18 @@
 -- The deeds that change no slot, or those of the records that an ended snapshot lets go, as steps under the rule of the desk.
-use Rattle.std.proofs.Common.{◌≡◌, ◌≢◌, ◌⊎◌, ℕ, zero, suc, ◌<◌, ◌≤◌, ◌+◌, ◌-◌, List, [], ◌∷◌, Bool, true, false, cond, eqb, set, length, Option, Some, None, refl, sym, ap, ◌∙◌, subst, inl, inr, ⊎_elim, arith, eq-eqb, ne_eqb, eqb-true}
-use Rattle.std.specs.Prelude.{◌||◌, ◌==◌, ◌↔◌}
-use mathlib.Core.Option.{some, some-injective, some-ne-none}
-use lib.ListN.{get_elem?}
+use Rattle.std.proofs.Common.{◌≡◌, ◌⊎◌, ℕ, ◌<◌, ◌+◌, List, [], ◌∷◌, Bool, true, false, cond, set, length, Option, Some, None, refl, sym, ap, ◌∙◌, subst, inl, inr, ⊎_elim, arith, length-set}
+use Rattle.std.specs.Prelude.{◌||◌, ◌==◌}
 use Rattle.atomic_table.proofs.Lists.{set_else}
 use Rattle.node_forest.specs.Label.{Node}
 use Rattle.cordz_core.specs.declared.slot.SlotState.{SlotState}
-use Rattle.cordz_core.specs.declared.slot.SlotState.TheVariants.{Free as IsFree, Reserved, Linked, Leaving, Queued as Waits, Clearing}
-use Rattle.cordz_core.specs.Contents.{Contents, state_of, birth_of}
-use Rattle.cordz_core.specs.History.{History, Unsnaps, Tracked, use_of, stamp_in, stamps_given}
+use Rattle.cordz_core.specs.declared.slot.SlotState.TheVariants.{Queued as Waits, Clearing}
+use Rattle.cordz_core.specs.Contents.{Contents, state_of}
+use Rattle.cordz_core.specs.History.{History, Unsnaps, stamp_in}
 use Rattle.cordz_core.specs.Legal.{Replays, IsDeletionOf, state_after}
 use Rattle.cordz_core.specs.Queue.{has}
 use Rattle.cordz_core.specs.Times.{records, snapshots, record_in}
 use Rattle.cordz_core.proofs.Deleting.{deletion_place}
 use Rattle.record_rule.specs.declared.values.DeskValue.{DeskValue}
-use Rattle.record_rule.specs.declared.values.DeskValue.TheVariants.{List as Lists, Record}
+use Rattle.record_rule.specs.declared.values.DeskValue.TheVariants.{List as Lists}
 use Rattle.record_rule.specs.declared.values.Rep.{Rep}
 use Rattle.record_rule.specs.declared.views.Claim.{Claim}
 use Rattle.record_rule.specs.declared.views.Claim.TheVariants.{Nothing, Promised, Written, Owned, Unlinked, Cleared, Emptied}
@@ -25,14 +23,13 @@ use Rattle.record_rule.specs.declared.views.Noted.{Noted}
 use Rattle.record_rule.specs.declared.views.TokenView.{TokenView}
 use Rattle.record_rule.specs.declared.views.DeskView.{DeskView}
 use Rattle.record_rule.specs.declared.views.DeskView.TheVariants.{Token}
-use Rattle.record_rule.specs.Log.{after_deed, history, is_walking, walk_of}
-use Rattle.record_rule.specs.Notes.{AllUntracked}
-use Rattle.record_rule.specs.Views.{claim_at, done, nothing_left, left_of}
-use Rattle.record_rule.specs.World.{Facts, Has, IsToken, IsSlot, IsSlotIn, HasSlot, IsWorld}
+use Rattle.record_rule.specs.Log.{after_deed, history}
+use Rattle.record_rule.specs.Views.{claim_at, done, nothing_left}
+use Rattle.record_rule.specs.World.{Facts, Has, IsToken, IsSlot, HasSlot, IsWorld}
 use Rattle.record_rule.proofs.Acts.{Doing, Done}
 use Rattle.record_rule.proofs.Deeds.{deed_room, deed_walk, entry_of, own_entry, follows_entry, tracked_small, waits_by}
 use Rattle.record_rule.proofs.Moving.{Follows, all_left_set, set_there, views_next}
-use Rattle.record_rule.proofs.Others.{Grows, reads_stay, shown_stay, untracked_stay}
+use Rattle.record_rule.proofs.Others.{Grows}
 use Rattle.record_rule.proofs.Slots.{slot_same}
 
 -- the facts after a deed that clears these slots
@@ -144,6 +141,7 @@ module _ {S : Type 0} (tree_of : S → Node) (fits : S → Type 0) where
             → IsToken g by p → Follows g by (entry_of p place d ∷ g.log) q → IsWorld tree_of fits (Next d q gone) (set values 0 (Lists q)) (set views by (Some (Token w)))
         whole w is k f = subst (λ (z : TokenView). IsWorld tree_of fits (Next d q gone) (set values 0 (Lists q)) (set views by (Some (Token z)))) (sym is) record {
           first = set_there values 0 _ _ a.world.first;
+          count = length-set values 0 (Lists q) ∙ a.world.count;
           walkers = f.walkers ∙ a.world.walkers;
           replays = f.replays;
           log = f.logged;

@@ -1,5 +1,5 @@
 -- Tokens that are given, divided and joined.
-use Rattle.std.proofs.Common.{◌≡◌, ◌≢◌, ◌⊎◌, ℕ, zero, suc, ◌<◌, ◌≤◌, ◌+◌, ◌-◌, ◌*◌, List, [], ◌∷◌, ◌++◌, Bool, true, false, cond, eqb, set, length, Option, Some, None, refl, sym, ap, ◌∙◌, subst, inl, inr, ⊎_elim, arith, eq-eqb, ne_eqb, length-set}
+use Rattle.std.proofs.Common.{◌≡◌, ◌≢◌, ◌⊎◌, ℕ, zero, suc, ◌<◌, ◌+◌, List, [], ◌∷◌, ◌++◌, Bool, true, false, cond, eqb, set, length, Option, Some, None, refl, sym, ap, ◌∙◌, subst, inl, inr, ⊎_elim, arith, eq-eqb, ne_eqb, length-set}
 use mathlib.Core.Logic.{dite}
 use native.Mathlib.Decide.{ℕ_discrete}
 use mathlib.Core.Option.{some, some-injective, some-ne-none}
@@ -8,14 +8,14 @@ use Rattle.atomic_table.proofs.Lists.{at_set, set_else}
 use Rattle.node_forest.specs.Label.{Node}
 use Rattle.record_rule.specs.declared.values.DeskValue.{DeskValue}
 use Rattle.record_rule.specs.declared.views.Claim.{Claim}
-use Rattle.record_rule.specs.declared.views.Claim.TheVariants.{Nothing, Promised, Written, Owned, Unlinked, Cleared, Emptied}
+use Rattle.record_rule.specs.declared.views.Claim.TheVariants.{Nothing, Owned}
 use Rattle.record_rule.specs.declared.views.Noted.{Noted}
 use Rattle.record_rule.specs.declared.views.TokenView.{TokenView}
 use Rattle.record_rule.specs.declared.views.DeskView.{DeskView}
-use Rattle.record_rule.specs.declared.views.DeskView.TheVariants.{Root, Token, Ticket, Shown}
-use Rattle.record_rule.specs.Steps.{Gives, Issues, Returns, Redeems, Splits, Merges}
-use Rattle.record_rule.specs.Views.{claim_at, claiming, new_token, left_of, all_left, most_actions, most_tokens}
-use Rattle.record_rule.specs.World.{Facts, Has, IsToken, AreTokens, Fits, HasSlot, IsWorld}
+use Rattle.record_rule.specs.declared.views.DeskView.TheVariants.{Root, Token, Ticket, Lent}
+use Rattle.record_rule.specs.Notes.{ReachesTo, newest_update}
+use Rattle.record_rule.specs.Views.{claim_at, claiming, showing, new_token, left_of, most_tokens}
+use Rattle.record_rule.specs.World.{Facts, Has, IsToken, AreTokens, Fits, IsRecord, IsSlot, HasSlot, IsWorld}
 use Rattle.record_rule.proofs.Moving.{all_left_set, all_left_more, views_next}
 use Rattle.record_rule.proofs.Others.{Grows, stays}
 use Rattle.record_rule.proofs.Slots.{changed, changed_here, changed_else}
@@ -167,6 +167,19 @@ issued g s new = record {
   slot = g.slot;
 }
 
+issued_grows : (g : Facts) (by s new : ℕ) → g.owner s ≡ by → Grows (λ j. j ≡ by) g (issued g s new)
+issued_grows g by s new is = record {
+  given = (let n : ℕ = g.given in omega arith);
+  root = refl;
+  same = λ off. refl;
+  seat = λ n less off. refl;
+  own = λ n less off. refl;
+  claims = λ t held off. (refl, changed_else g.owner s t new (λ e. off (ap g.owner e ∙ is)));
+  walk = λ n less off walking slots w. w;
+  notes = λ t. inl refl;
+  closed = λ t shut. (shut, refl);
+}
+
 module _ {S : Type 0} (tree_of : S → Node) (fits : S → Type 0) where
   abbrev pub Split : List (DeskValue S) → List (Option DeskView) → ℕ → DeskView → DeskView → Type 0
   Split values views by a b = (k : Facts) × IsWorld tree_of fits k values (set views by (Some a) ++ Some b ∷ [])
@@ -208,6 +221,7 @@ module _ {S : Type 0} (tree_of : S → Node) (fits : S → Type 0) where
         seated g new,
         record {
           first = world.first;
+          count = world.count;
           walkers = world.walkers;
           replays = world.replays;
           log = world.log;
@@ -242,20 +256,11 @@ module _ {S : Type 0} (tree_of : S → Node) (fits : S → Type 0) where
       let total = all_left_set views by (Some (Token p)) (Some (Token (claiming s Nothing p))) seen in
       let more = all_left_more (set views by (Some (Token (claiming s Nothing p)))) (Some (Ticket s stamp notes bare)) in
       let had = world.room in
-      let grows : Grows (λ j. j ≡ by) g (issued g s new) = record {
-        given = (let n : ℕ = g.given in omega arith);
-        root = refl;
-        same = λ off. refl;
-        seat = λ n less off. refl;
-        own = λ n less off. refl;
-        claims = λ t held off. (refl, changed_else g.owner s t new (λ e. off (ap g.owner e ∙ h.1)));
-        walk = λ n less off walking slots w. w;
-        notes = λ t. inl refl;
-        closed = λ t shut. (shut, refl);
-      } in (
+      let grows : Grows (λ j. j ≡ by) g (issued g s new) = issued_grows g by s new h.1 in (
         issued g s new,
         record {
           first = world.first;
+          count = world.count;
           walkers = world.walkers;
           replays = world.replays;
           log = world.log;
@@ -294,6 +299,7 @@ module _ {S : Type 0} (tree_of : S → Node) (fits : S → Type 0) where
         joined g by other,
         record {
           first = world.first;
+          count = world.count;
           walkers = world.walkers;
           replays = world.replays;
           log = world.log;
@@ -322,3 +328,67 @@ module _ {S : Type 0} (tree_of : S → Node) (fits : S → Type 0) where
       let t = world.each other (Some (Ticket s stamp notes bare)) seen' in
       joins g values views by other (Token p) (Ticket s stamp notes bare) (Token (claiming s (Owned stamp notes bare) p)) world seen apart seen' refl
       (claim_more (joined g by other) by s p (Owned stamp notes bare) (token_joined g by other by p (inl refl) k) (has_joined g by other other s (Owned stamp notes bare) (inr refl) t))
+
+  pub lends : (g : Facts) (values : List (DeskValue S)) (views : List (Option DeskView)) (by s stamp : ℕ) (notes : List Noted) (bare : Bool) → IsWorld tree_of fits g values views → get_elem? views by ≡ some (Some (Ticket s stamp notes bare))
+      → Split values views by Lent (Ticket s stamp notes bare)
+  lends g values views by s stamp notes bare world seen =
+      let new : ℕ = length views in
+      let h : Has g by s (Owned stamp notes bare) = world.each by (Some (Ticket s stamp notes bare)) seen in
+      let total = all_left_set views by (Some (Ticket s stamp notes bare)) (Some Lent) seen in
+      let more = all_left_more (set views by (Some Lent)) (Some (Ticket s stamp notes bare)) in
+      let had = world.room in (
+        issued g s new,
+        record {
+          first = world.first;
+          count = world.count;
+          walkers = world.walkers;
+          replays = world.replays;
+          log = world.log;
+          room = omega arith;
+          slots = λ t small. same_slot g (issued g s new) values t refl refl refl refl refl refl (world.slots t small);
+          notes = world.notes;
+          unborn = world.unborn;
+          few = world.few;
+          ungiven = world.ungiven;
+          each = split_views g (issued g s new) views by (Some Lent) (Some (Ticket s stamp notes bare)) (issued_grows g by s new h.1)
+              tt
+              (h.0, changed_here g.owner s s new refl, h.2)
+              world.each;
+        },
+      )
+
+  newest_reaches : (r : Rattle.record_rule.specs.declared.values.Rep.Rep S) (notes : List Noted) → IsRecord tree_of fits r notes → ReachesTo (newest_update notes) notes
+  newest_reaches r notes k = subst (λ (z : List Noted). ReachesTo (newest_update z) z) (sym k.list) (let n : ℕ = k.newest.note.update in omega arith)
+
+  owned_reaches : (g : Facts) (values : List (DeskValue S)) (views : List (Option DeskView)) (by s stamp : ℕ) (notes : List Noted) (bare : Bool) → IsWorld tree_of fits g values views → Has g by s (Owned stamp notes bare) → ReachesTo (newest_update notes) (g.notes stamp)
+  owned_reaches g values views by s stamp notes bare world h =
+      let o = world.slots s h.0 in
+      let at : ℕ = Rattle.cordz_core.specs.History.stamp_in (Rattle.record_rule.specs.Log.history g.log) s in
+      let f = subst (λ (z : Claim). IsSlot tree_of fits z (Rattle.cordz_core.specs.Contents.state_of g.registry s) s at (g.slot at) (g.live at) (g.notes at) o.rep) h.2 o.is in
+      subst (λ (z : List Noted × ℕ). ReachesTo (newest_update notes) (g.notes z.1)) (λ i. (notes, sym f.2 i))
+      (subst (λ (z : List Noted). ReachesTo (newest_update z) (g.notes at)) (sym f.3) (newest_reaches o.rep (g.notes at) f.5.2))
+
+  pub sees : (g : Facts) (values : List (DeskValue S)) (views : List (Option DeskView)) (by other s stamp : ℕ) (notes : List Noted) (bare : Bool) (p : TokenView) → IsWorld tree_of fits g values views → get_elem? views by ≡ some (Some (Token p)) → other ≢ by → get_elem? views other ≡ some (Some (Ticket s stamp notes bare))
+      → Merge values views by other (Token (showing stamp (newest_update notes) (claiming s (Owned stamp notes bare) p)))
+  sees g values views by other s stamp notes bare p world seen apart seen' =
+      let k = world.each by (Some (Token p)) seen in
+      let t = world.each other (Some (Ticket s stamp notes bare)) seen' in
+      let c = claim_more (joined g by other) by s p (Owned stamp notes bare) (token_joined g by other by p (inl refl) k) (has_joined g by other other s (Owned stamp notes bare) (inr refl) t) in
+      joins g values views by other (Token p) (Ticket s stamp notes bare) (Token (showing stamp (newest_update notes) (claiming s (Owned stamp notes bare) p))) world seen apart seen' refl
+      (record {
+        seat = c.seat;
+        given = c.given;
+        own = c.own;
+        claims = c.claims;
+        walk = c.walk;
+        reads = c.reads;
+        untracked = c.untracked;
+        shown = (owned_reaches g values views other s stamp notes bare world t, c.shown);
+      })
+
+  pub fills : (g : Facts) (values : List (DeskValue S)) (views : List (Option DeskView)) (by other s stamp : ℕ) (notes : List Noted) (bare : Bool) → IsWorld tree_of fits g values views → get_elem? views by ≡ some (Some Lent) → other ≢ by → get_elem? views other ≡ some (Some (Ticket s stamp notes bare))
+      → Merge values views by other (Ticket s stamp notes bare)
+  fills g values views by other s stamp notes bare world seen apart seen' =
+      let t = world.each other (Some (Ticket s stamp notes bare)) seen' in
+      joins g values views by other Lent (Ticket s stamp notes bare) (Ticket s stamp notes bare) world seen apart seen' refl
+      (has_joined g by other other s (Owned stamp notes bare) (inr refl) t)

@@ -1,17 +1,16 @@
 -- A turn of a record, by kind, as a step under the rule of the desk.
-use Rattle.std.proofs.Common.{◌≡◌, ◌≢◌, ◌⊎◌, ℕ, zero, suc, ◌<◌, ◌≤◌, ◌+◌, List, [], ◌∷◌, Bool, true, false, set, length, Option, Some, None, refl, sym, ap, ◌∙◌, subst, inl, inr, ⊎_elim, arith}
-use mathlib.Core.Option.{some, some-injective, some-ne-none}
+use Rattle.std.proofs.Common.{◌≡◌, ◌≢◌, ℕ, ◌<◌, ◌+◌, List, [], ◌∷◌, Bool, true, false, set, Option, Some, refl, sym, ap, ◌∙◌, subst, inl, inr, ⊎_elim, arith, length-set}
+use mathlib.Core.Option.{some, some-injective}
 use lib.ListN.{get_elem?}
 use Rattle.atomic_table.proofs.Lists.{set_else}
 use Rattle.node_forest.specs.Label.{Node}
-use Rattle.cordz_core.specs.declared.slot.SlotState.{SlotState}
-use Rattle.cordz_core.specs.Contents.{Contents, state_of}
+use Rattle.cordz_core.specs.Contents.{state_of}
 use Rattle.cordz_core.specs.History.{History, stamp_in}
 use Rattle.record_rule.specs.declared.values.DeskValue.{DeskValue}
-use Rattle.record_rule.specs.declared.values.DeskValue.TheVariants.{List as Lists, Record}
+use Rattle.record_rule.specs.declared.values.DeskValue.TheVariants.{Record}
 use Rattle.record_rule.specs.declared.values.Rep.{Rep}
 use Rattle.record_rule.specs.declared.views.Claim.{Claim}
-use Rattle.record_rule.specs.declared.views.Claim.TheVariants.{Nothing, Promised, Written, Owned, Unlinked, Cleared, Emptied}
+use Rattle.record_rule.specs.declared.views.Claim.TheVariants.{Nothing, Promised, Written, Cleared, Emptied}
 use Rattle.record_rule.specs.declared.views.Noted.{Noted}
 use Rattle.record_rule.specs.declared.views.TokenView.{TokenView}
 use Rattle.record_rule.specs.declared.views.DeskView.{DeskView}
@@ -20,10 +19,10 @@ use Rattle.record_rule.specs.Log.{history}
 use Rattle.record_rule.specs.Notes.{GrowsTo, AreNotes, NoneAbove}
 use Rattle.record_rule.specs.Steps.{Wrote, Drained}
 use Rattle.record_rule.specs.Views.{claim_at, claiming, left_of}
-use Rattle.record_rule.specs.World.{Facts, Has, IsToken, Fits, IsSlot, HasSlot, IsWorld}
+use Rattle.record_rule.specs.World.{Facts, Has, IsToken, Fits, IsSlot, IsWorld}
 use Rattle.record_rule.proofs.Moving.{Follows, moved, grows_moved, token_moved, world_moved, set_there}
 use Rattle.record_rule.proofs.Others.{Grows, untracked_stay}
-use Rattle.record_rule.proofs.Slots.{changed, changed_here, stamp_given}
+use Rattle.record_rule.proofs.Slots.{changed_here, stamp_given}
 
 module _ {S : Type 0} (tree_of : S → Node) (fits : S → Type 0) where
   -- a turn of the record of the slot s
@@ -54,7 +53,7 @@ module _ {S : Type 0} (tree_of : S → Node) (fits : S → Type 0) where
     pub is : IsSlot tree_of fits c (state_of g.registry s) s (stamp_in (history g.log) s) s lives list new
     pub left : left_of (Some w) ≡ left_of (Some v)
 
-  turned : (g : Facts) (values : List (DeskValue S)) (views : List (Option DeskView)) (by s : ℕ) (v w : DeskView) (c : Claim) (lives : Bool) (list : List Noted) (old new : Rep S) → Turning g values views by s v w c lives list old new
+  pub turned : (g : Facts) (values : List (DeskValue S)) (views : List (Option DeskView)) (by s : ℕ) (v w : DeskView) (c : Claim) (lives : Bool) (list : List Noted) (old new : Rep S) → Turning g values views by s v w c lives list old new
       → (Grows (λ j. j ≡ by) g (moved g by g.log g.registry s c (stamp_in (history g.log) s) s lives list) → Fits (moved g by g.log g.registry s c (stamp_in (history g.log) s) s lives list) by (Some w))
       → Turned values views by s new w
   turned g values views by s v w c lives list old new t fitting =
@@ -65,6 +64,7 @@ module _ {S : Type 0} (tree_of : S → Node) (fits : S → Type 0) where
         moved g by g.log g.registry s c stamp s lives list,
         world_moved tree_of fits g values (set values (s + 1) (Record new)) views by v w g.log g.registry s c stamp s lives list t.world t.seen f
             (set_else values (s + 1) 0 (Record new) (λ e. omega arith) ∙ t.world.first)
+            (length-set values (s + 1) (Record new))
             (omega arith)
             (λ i not. (set_else values (s + 1) (i + 1) (Record new) (λ e. not (omega arith)), refl, refl))
             (λ i not same here. not (sym here ∙ t.at))
@@ -77,7 +77,7 @@ module _ {S : Type 0} (tree_of : S → Node) (fits : S → Type 0) where
             t.noted (stamp_given (history g.log) s) grows (fitting grows),
       )
 
-  record_is : (a b : Rep S) → Record a ≡ Record b → a ≡ b
+  pub record_is : (a b : Rep S) → Record a ≡ Record b → a ≡ b
   record_is a b e = cc
 
   -- what a token finds in a slot that it has a claim on

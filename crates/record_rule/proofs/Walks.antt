@@ -1,10 +1,10 @@
 -- A walk stays one whatever is done to the registry, and goes on from each of its slots.
-use Rattle.std.proofs.Common.{◌≡◌, ◌≢◌, ◌⊎◌, ℕ, ◌+◌, ◌<◌, ◌≤◌, List, [], ◌∷◌, Bool, true, false, cond, length, eqb, Option, Some, None, refl, sym, ap, ◌∙◌, subst, inl, inr, ⊎_elim, arith, option_map, option_and_then, eqb-true, eq-eqb}
+use Rattle.std.proofs.Common.{◌≡◌, ℕ, ◌<◌, ◌≤◌, List, [], ◌∷◌, Bool, true, false, cond, length, Option, Some, None, refl, sym, ap, ◌∙◌, inl, inr, arith, option_map, option_and_then, eqb-true, eq-eqb}
 use Rattle.std.specs.Prelude.{◌||◌, ◌&&◌, ◌==◌}
 use Rattle.cordz_core.specs.declared.slot.Clock.{Clock}
 use Rattle.cordz_core.specs.Contents.{Contents, birth_of}
 use Rattle.cordz_core.specs.History.{Action, History}
-use Rattle.cordz_core.specs.Legal.{Replays, IsLegal, head_after, next_after}
+use Rattle.cordz_core.specs.Legal.{Replays, head_after, next_after}
 use Rattle.cordz_core.specs.Queue.{has}
 use Rattle.cordz_core.specs.Times.{RecordTimes, SnapshotTimes, records, snapshots, head_at, next_at, record_in, living, unended, unended_at}
 use Rattle.cordz_core.specs.Walks.{Read, FoundBehind, Continues, IsWalk, IsAmong, key_of, lives_at, AllHold, StillHolds}

@@ -1,8 +1,7 @@
 -- The log of a desk: the actions and reads of all tokens, what came last first.
-use Rattle.std.specs.Prelude.{◌≡◌, ◌≢◌, ◌↔◌, ℕ, ◌+◌, ◌<◌, ◌≤◌, ◌==◌, cond, Bool, true, false, List, [], ◌∷◌, length, Option, Some, None}
+use Rattle.std.specs.Prelude.{◌≡◌, ◌≢◌, ◌↔◌, ℕ, ◌+◌, ◌<◌, ◌==◌, cond, Bool, true, false, List, [], ◌∷◌, length, Option, Some, None}
 use Rattle.cordz_core.specs.declared.slot.SlotState.TheVariants.{Free as IsFree}
-use Rattle.cordz_core.specs.declared.answers.Settled.{Settled}
-use Rattle.cordz_core.specs.declared.answers.Settled.TheVariants.{Deleted, Queued}
+use Rattle.cordz_core.specs.declared.answers.Settled.TheVariants.{Deleted}
 use Rattle.cordz_core.specs.History.{History, Reserves, Frees, Tracks, Unlinks, Settles, Snaps, Unsnaps, Tracked, use_of, stamps_given}
 use Rattle.cordz_core.specs.Legal.{state_after, head_after, next_after, IsDeletionOf}
 use Rattle.cordz_core.specs.Queue.{has}

@@ -1,5 +1,5 @@
 -- The notes of records: the lists that are set under a stamp, what came last first.
-use Rattle.std.specs.Prelude.{◌≡◌, ◌≤◌, ◌⊎◌, ℕ, Bool, true, false, List, [], ◌∷◌, ◌++◌}
+use Rattle.std.specs.Prelude.{◌≡◌, ◌≤◌, ◌⊎◌, ℕ, Bool, false, List, [], ◌∷◌}
 use Rattle.record_rule.specs.declared.views.Noted.{Noted}
 
 -- this note, with its tree, is one of these
@@ -21,6 +21,20 @@ AreNotes stamp (n ∷ ns) = (n.note.stamp ≡ stamp) × (n.note.length ≡ n.tre
 abbrev pub ReachesTo : ℕ → List Noted → Type 0
 ReachesTo update [] = ⊥
 ReachesTo update (n ∷ ns) = update ≤ n.note.update
+
+abbrev pub newest_update : List Noted → ℕ
+newest_update [] = 0
+newest_update (n ∷ ns) = n.note.update
+
+-- no note of this stamp among these has a later update
+abbrev pub NoneLater : ℕ → ℕ → List Noted → Type 0
+NoneLater stamp update [] = Unit {0}
+NoneLater stamp update (n ∷ ns) = (n.note.stamp ≡ stamp → n.note.update ≤ update) × NoneLater stamp update ns
+
+-- no later update was shown under this stamp
+abbrev pub NoneShownLater : ℕ → ℕ → List (ℕ × ℕ) → Type 0
+NoneShownLater stamp update [] = Unit {0}
+NoneShownLater stamp update (u ∷ us) = (u.0 ≡ stamp → u.1 ≤ update) × NoneShownLater stamp update us
 
 -- the same notes, or one note more
 abbrev pub GrowsTo : List Noted → List Noted → Type 0

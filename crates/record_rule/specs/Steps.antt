@@ -1,5 +1,5 @@
 -- What a turn that is left has done, and how tokens are divided and joined.
-use Rattle.std.specs.Prelude.{◌≡◌, ◌⊎◌, ◌<◌, ◌≤◌, ◌+◌, ℕ, Bool, true, false, List, [], ◌∷◌, length, IfSome, MatchOption, ⊤, Option, Some, None}
+use Rattle.std.specs.Prelude.{◌≡◌, ◌⊎◌, ◌<◌, ◌≤◌, ◌+◌, ℕ, Bool, true, false, List, [], ◌∷◌, length, MatchOption, ⊤, Option, None}
 use Rattle.node_forest.specs.Label.{Node}
 use Rattle.cordz_core.specs.declared.slot.SlotState.TheVariants.{Free as IsFree, Reserved, Linked, Leaving}
 use Rattle.cordz_core.specs.Contents.{Contents, state_of}
@@ -17,9 +17,10 @@ use Rattle.record_rule.specs.declared.views.Deed.TheVariants.{Reserve, Full, Fre
 use Rattle.record_rule.specs.declared.views.Noted.{Noted}
 use Rattle.record_rule.specs.declared.views.TokenView.{TokenView}
 use Rattle.record_rule.specs.declared.views.DeskView.{DeskView}
-use Rattle.record_rule.specs.declared.views.DeskView.TheVariants.{Root, Token, Ticket, Shown}
+use Rattle.record_rule.specs.declared.views.DeskView.TheVariants.{Root, Token, Ticket, Lent}
 use Rattle.record_rule.specs.Log.{after_deed, IsAnswer, is_walking, walk_of, made_of}
-use Rattle.record_rule.specs.Views.{claim_at, claiming, done, new_token, most_actions, most_tokens}
+use Rattle.record_rule.specs.Notes.{newest_update}
+use Rattle.record_rule.specs.Views.{claim_at, claiming, reading, showing, done, new_token, most_actions, most_tokens}
 use Rattle.record_rule.specs.World.{note_of, is_bare}
 
 -- which claims a slot may be freed with, and those that the other actions need
@@ -97,11 +98,63 @@ module _ {S : Type 0} where
       pub stamped : new.stamp ≡ stamp
       pub is : IsNew new note
 
+    -- the same record, with a share of the same tree or without one
+    pub record IsKept (old new : Rep S) : Type 0 where
+      pub note : note_of new ≡ note_of old
+      pub share : MatchOption new.hold ⊤ (λ x. fits x × MatchOption old.hold ⊥ (λ o. tree_of x ≡ tree_of o))
+
+    -- a record with a new note
+    pub record IsPublished (stamp : ℕ) (old new : Rep S) (notes later : List Noted) : Type 0 where
+      pub note : Noted
+      pub list : later ≡ note ∷ notes
+      pub stamped : new.stamp ≡ stamp
+      pub raised : old.update ≤ new.update
+      pub is : IsNew new note
+
+    -- a ticket changes its record
+    pub record Altered (l : ℕ) (x y : DeskValue S) (v w : DeskView) : Type 0 where
+      pub slot : ℕ
+      pub stamp : ℕ
+      pub notes : List Noted
+      pub later : List Noted
+      pub bare : Bool
+      pub old : Rep S
+      pub new : Rep S
+      pub at : l ≡ slot + 1
+      pub from : x ≡ Record old
+      pub to : y ≡ Record new
+      pub before : v ≡ Ticket slot stamp notes bare
+      pub after : w ≡ Ticket slot stamp later (is_bare new)
+      pub change : ((later ≡ notes) × IsKept old new) ⊎ IsPublished stamp old new notes later
+
+    -- a token reads a record's note and tree
+    pub record Took (l : ℕ) (x y : DeskValue S) (v w : DeskView) : Type 0 where
+      pub token : TokenView
+      pub slot : ℕ
+      pub note : Noted
+      pub old : Rep S
+      pub new : Rep S
+      pub at : l ≡ slot + 1
+      pub small : slot < 256
+      pub from : x ≡ Record old
+      pub to : y ≡ Record new
+      pub before : v ≡ Token token
+      pub after : w ≡ Token (reading note token)
+      pub kept : IsKept old new
+      pub some : is_bare new ≡ false
+      pub noted : note.note ≡ note_of old
+      pub tree : MatchOption old.hold ⊥ (λ o. tree_of o ≡ note.tree)
+
+  -- a turn that changes nothing
+  pub record Passed (x y : DeskValue S) (v w : DeskView) : Type 0 where
+    pub value : y ≡ x
+    pub view : w ≡ v
+
   -- a token empties the record of a slot that is to be cleared
   pub record Drained (l : ℕ) (x y : DeskValue S) (v w : DeskView) : Type 0 where
     pub token : TokenView
     pub slot : ℕ
-    pub bare : Option Bool
+    pub bare : Option (ℕ × Bool)
     pub old : Rep S
     pub new : Rep S
     pub at : l ≡ slot + 1
@@ -113,7 +166,8 @@ module _ {S : Type 0} where
     pub none : new.hold ≡ None
 
   abbrev pub Leaves : (S → Node) → (S → Type 0) → ℕ → DeskValue S → DeskValue S → DeskView → DeskView → Type 0
-  Leaves tree_of fits l x y v w = Acted l x y v w ⊎ (Wrote tree_of fits l x y v w ⊎ Drained l x y v w)
+  Leaves tree_of fits l x y v w = Acted l x y v w
+      ⊎ (Wrote tree_of fits l x y v w ⊎ (Drained l x y v w ⊎ (Altered tree_of fits l x y v w ⊎ (Took tree_of fits l x y v w ⊎ Passed x y v w))))
 
 -- the first token gives one with the next number
 pub record Gives (v a b : DeskView) : Type 0 where
@@ -136,6 +190,16 @@ pub record Issues (v a b : DeskView) : Type 0 where
   pub kept : a ≡ Token (claiming slot Nothing token)
   pub new : b ≡ Ticket slot stamp notes bare
 
+-- a ticket lends what it knows
+pub record Lends (v a b : DeskView) : Type 0 where
+  pub slot : ℕ
+  pub stamp : ℕ
+  pub notes : List Noted
+  pub bare : Bool
+  pub before : v ≡ Ticket slot stamp notes bare
+  pub kept : a ≡ Lent
+  pub new : b ≡ Ticket slot stamp notes bare
+
 -- a token comes back to the first one
 pub record Returns (v w both : DeskView) : Type 0 where
   pub given : ℕ
@@ -156,11 +220,32 @@ pub record Redeems (v w both : DeskView) : Type 0 where
   pub other : w ≡ Ticket slot stamp notes bare
   pub after : both ≡ Token (claiming slot (Owned stamp notes bare) token)
 
+-- a token takes a ticket, and is shown its update
+pub record Sees (v w both : DeskView) : Type 0 where
+  pub token : TokenView
+  pub slot : ℕ
+  pub stamp : ℕ
+  pub notes : List Noted
+  pub bare : Bool
+  pub before : v ≡ Token token
+  pub other : w ≡ Ticket slot stamp notes bare
+  pub after : both ≡ Token (showing stamp (newest_update notes) (claiming slot (Owned stamp notes bare) token))
+
+-- what was lent comes back
+pub record Fills (v w both : DeskView) : Type 0 where
+  pub slot : ℕ
+  pub stamp : ℕ
+  pub notes : List Noted
+  pub bare : Bool
+  pub before : v ≡ Lent
+  pub other : w ≡ Ticket slot stamp notes bare
+  pub after : both ≡ Ticket slot stamp notes bare
+
 abbrev pub Splits : DeskView → DeskView → DeskView → Type 0
-Splits v a b = Gives v a b ⊎ Issues v a b
+Splits v a b = Gives v a b ⊎ (Issues v a b ⊎ Lends v a b)
 
 abbrev pub Merges : DeskView → DeskView → DeskView → Type 0
-Merges v w both = Returns v w both ⊎ Redeems v w both
+Merges v w both = Returns v w both ⊎ (Redeems v w both ⊎ (Sees v w both ⊎ Fills v w both))
 
 abbrev pub no_registry : Contents
 no_registry = record { walkers = 0; clock = 0; stamps = 0; head = None; entries = []; newer = []; births = []; queue = [] }

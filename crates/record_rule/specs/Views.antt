@@ -1,16 +1,15 @@
 -- What tokens know, and how a deed, a turn of a record, a split and a merge change that.
-use Rattle.std.specs.Prelude.{◌≡◌, ◌<◌, ◌≤◌, ℕ, ◌+◌, ◌-◌, ◌*◌, ◌^◌, ◌==◌, cond, Bool, true, false, List, [], ◌∷◌, ◌++◌, length, Option, Some, None}
+use Rattle.std.specs.Prelude.{◌≡◌, ℕ, ◌+◌, ◌-◌, ◌*◌, ◌^◌, ◌==◌, cond, false, List, [], ◌∷◌, Option, Some, None}
 use Rattle.cordz_core.specs.declared.answers.Settled.{Settled}
 use Rattle.cordz_core.specs.declared.answers.Settled.TheVariants.{Deleted, Queued}
 use Rattle.record_rule.specs.declared.views.Claim.{Claim}
-use Rattle.record_rule.specs.declared.views.Claim.TheVariants.{Nothing, Promised, Written, Owned, Unlinked, Cleared, Emptied}
+use Rattle.record_rule.specs.declared.views.Claim.TheVariants.{Nothing, Promised, Written, Owned, Unlinked, Cleared}
 use Rattle.record_rule.specs.declared.views.Deed.{Deed}
-use Rattle.record_rule.specs.declared.views.Deed.TheVariants.{Reserve, Full, Free, Track, Unlink, Settle, Snap, Unsnap, Head, Next}
-use Rattle.record_rule.specs.declared.views.LogEntry.{LogEntry}
+use Rattle.record_rule.specs.declared.views.Deed.TheVariants.{Reserve, Free, Track, Unlink, Settle, Unsnap}
 use Rattle.record_rule.specs.declared.views.Noted.{Noted}
 use Rattle.record_rule.specs.declared.views.TokenView.{TokenView}
 use Rattle.record_rule.specs.declared.views.DeskView.{DeskView}
-use Rattle.record_rule.specs.declared.views.DeskView.TheVariants.{Root, Token, Ticket, Shown}
+use Rattle.record_rule.specs.declared.views.DeskView.TheVariants.{Root, Token, Ticket, Lent}
 use Rattle.record_rule.specs.Log.{made_of}
 
 -- how many actions a token may make, and how many tokens there are at most
@@ -36,6 +35,13 @@ claiming s c p = record p { claims = (s, c) ∷ p.claims }
 abbrev pub entering : ℕ → Deed → TokenView → TokenView
 entering place d p = record p { own = record { by = p.number; place = place; deed = d } ∷ p.own }
 
+-- a token that read a note, and one that a ticket showed its update
+abbrev pub reading : Noted → TokenView → TokenView
+reading n p = record p { reads = n ∷ p.reads }
+
+abbrev pub showing : ℕ → ℕ → TokenView → TokenView
+showing stamp update p = record p { shown = (stamp, update) ∷ p.shown }
+
 abbrev pub nothing_left : List ℕ → List (ℕ × Claim) → List (ℕ × Claim)
 nothing_left [] cs = cs
 nothing_left (s ∷ ss) cs = (s, Cleared None) ∷ nothing_left ss cs
@@ -50,7 +56,7 @@ unlinked_claim (Owned stamp notes bare) = Unlinked stamp bare
 unlinked_claim c = c
 
 abbrev pub settled_claim : Settled → Claim → Claim
-settled_claim Deleted (Unlinked stamp bare) = Cleared (Some bare)
+settled_claim Deleted (Unlinked stamp bare) = Cleared (Some (stamp, bare))
 settled_claim Deleted c = c
 settled_claim Queued c = Nothing
 
@@ -83,7 +89,7 @@ left_of None = 0
 left_of (Some (Root given back)) = (most_tokens - given) * most_actions
 left_of (Some (Token p)) = most_actions - made_of p.own
 left_of (Some (Ticket s stamp notes bare)) = 0
-left_of (Some (Shown stamp update)) = 0
+left_of (Some Lent) = 0
 
 abbrev pub all_left : List (Option DeskView) → ℕ
 all_left [] = 0
@@ -94,7 +100,7 @@ abbrev pub token_in : DeskView → TokenView
 token_in (Token p) = p
 token_in (Root given back) = new_token 0
 token_in (Ticket s stamp notes bare) = new_token 0
-token_in (Shown stamp update) = new_token 0
+token_in Lent = new_token 0
 
 -- a view after a deed at a place, and after a change of a claim
 abbrev pub done_view : ℕ → Deed → DeskView → DeskView

@@ -1,5 +1,5 @@
 -- What the registry, the slots' records and the tokens have to do with each other between any two steps.
-use Rattle.std.specs.Prelude.{◌≡◌, ◌≢◌, ◌⊎◌, ◌<◌, ◌≤◌, ◌+◌, ◌*◌, ℕ, Bool, true, false, List, [], ◌∷◌, map, length, MatchOption, ⊤, Option, Some, None}
+use Rattle.std.specs.Prelude.{◌≡◌, ◌⊎◌, ◌<◌, ◌≤◌, ◌+◌, ◌*◌, ℕ, Bool, true, false, List, [], ◌∷◌, map, length, MatchOption, ⊤, Option, Some, None}
 use mathlib.Core.Option.{some}
 use lib.ListN.{get_elem?}
 use Rattle.node_forest.specs.Label.{Node}
@@ -21,9 +21,9 @@ use Rattle.record_rule.specs.declared.views.LogEntry.{LogEntry}
 use Rattle.record_rule.specs.declared.views.Noted.{Noted}
 use Rattle.record_rule.specs.declared.views.TokenView.{TokenView}
 use Rattle.record_rule.specs.declared.views.DeskView.{DeskView}
-use Rattle.record_rule.specs.declared.views.DeskView.TheVariants.{Root, Token, Ticket, Shown}
+use Rattle.record_rule.specs.declared.views.DeskView.TheVariants.{Root, Token, Ticket, Lent}
 use Rattle.record_rule.specs.Log.{history, IsLog, of_token, is_walking, walk_of}
-use Rattle.record_rule.specs.Notes.{AreNotes, ReachesTo, AllRead, AllShown, AllUntracked}
+use Rattle.record_rule.specs.Notes.{AreNotes, AllRead, AllShown, AllUntracked}
 use Rattle.record_rule.specs.Views.{claim_at, all_left, most_actions, most_tokens}
 
 -- what is so besides the values and what the tokens know
@@ -77,7 +77,7 @@ Fits g by None = Unit {0}
 Fits g by (Some (Root given back)) = (by ≡ g.root) × (given ≡ g.given) × AreTokens g by back
 Fits g by (Some (Token p)) = IsToken g by p
 Fits g by (Some (Ticket s stamp notes bare)) = Has g by s (Owned stamp notes bare)
-Fits g by (Some (Shown stamp update)) = ReachesTo update (g.notes stamp)
+Fits g by (Some Lent) = Unit {0}
 
 module _ {S : Type 0} where
   -- a value at home, or as it was taken out
@@ -118,7 +118,7 @@ module _ {S : Type 0} where
         × IsRecordAt s stamp at notes r
     IsSlot (Unlinked own bare) state s stamp at live notes r = (state ≡ Leaving) × (live ≡ false) × (own ≡ stamp) × (bare ≡ is_bare r)
         × IsRecordAt s stamp at notes r
-    IsSlot (Cleared bare) state s stamp at live notes r = (state ≡ Clearing) × (live ≡ false) × MatchOption bare ⊤ (λ b. b ≡ is_bare r)
+    IsSlot (Cleared bare) state s stamp at live notes r = (state ≡ Clearing) × (live ≡ false) × MatchOption bare ⊤ (λ b. (b.0 ≡ stamp) × (b.1 ≡ is_bare r))
         × IsRecordAt s stamp at notes r
     IsSlot Emptied state s stamp at live notes r = (state ≡ Clearing) × (at ≡ s) × (r.hold ≡ None)
 
@@ -133,6 +133,7 @@ module _ {S : Type 0} where
 
     pub record IsWorld (g : Facts) (values : List (DeskValue S)) (views : List (Option DeskView)) : Type 0 where
       pub first : get_elem? values 0 ≡ some (Lists g.registry)
+      pub count : length values ≡ 257
       pub walkers : g.registry.walkers ≡ 16
       pub replays : Replays (history g.log) g.registry
       pub log : IsLog g.log

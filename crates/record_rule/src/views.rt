@@ -48,8 +48,8 @@ pub enum Claim {
     Owned(u64, LinkedList<Noted>, bool),
     /// Its record was unlinked; its stamp, and whether it is bare.
     Unlinked(u64, bool),
-    /// Its record is deleted, and whether it is bare, where that is known.
-    Cleared(Option<bool>),
+    /// Its record is deleted; its stamp, and whether it is bare, where these are known.
+    Cleared(Option<(u64, bool)>),
     /// It has no share any more, and isn't free yet.
     Emptied,
 }
@@ -76,6 +76,6 @@ pub enum DeskView {
     Token(TokenView),
     /// A tracked record's owner: its slot, its stamp, its notes, and whether it is bare.
     Ticket(u16, u64, LinkedList<Noted>, bool),
-    /// A stamp and an update that its ticket showed.
-    Shown(u64, u64),
+    /// A ticket that lent what it knows.
+    Lent,
 }

@@ -62,6 +62,10 @@ reply-in-line replies.NoBytes p = refl
 reply-in-line (replies.Position asked n) p = ap (all_pass in_line) (position-text asked n) ∙ all_pass-append in_line (decimal asked) (32 ∷ decimal n) (number-in-line asked) (number-in-line n)
 reply-in-line (replies.Length asked) p = number-in-line asked
 reply-in-line (replies.Empty cell) p = number-in-line cell
+reply-in-line replies.Releasers p = refl
+reply-in-line replies.Height p = refl
+reply-in-line (replies.Cords found) p = number-in-line found
+reply-in-line (replies.Pool size) p = number-in-line size
 
 -- ---- no end
 
@@ -88,3 +92,7 @@ reply-no-end replies.NoBytes rest = refl
 reply-no-end (replies.Position asked n) rest = refl
 reply-no-end (replies.Length asked) rest = refl
 reply-no-end (replies.Empty cell) rest = refl
+reply-no-end replies.Releasers rest = refl
+reply-no-end replies.Height rest = refl
+reply-no-end (replies.Cords found) rest = refl
+reply-no-end (replies.Pool size) rest = refl

@@ -99,6 +99,7 @@ fine-swap p state cells a cell cord (Some x) = (tt, ((refl, refl), tt))
 fine-effect : (p : ℕ) (state : SessionState) (cells : Cells) (command : Command) → AllByRecursion IsShortName (names_in command) → IsFine p (effect p state cells command)
 unfolding IsFine
 fine-effect p state cells (commands.Let a text) n = (tt, tt)
+fine-effect p state cells (commands.Ext a text) n = (tt, tt)
 fine-effect p state cells (commands.Copy a b) n = (short-cord state.names a _ n.0 (λ cord. tt), tt)
 fine-effect p state cells (commands.Sub a pos m b) n = (short-cord state.names a _ n.0 (λ cord. tt), tt)
 fine-effect p state cells (commands.Clear a) n = (short-cord state.names a _ n.0 (λ cord. tt), tt)

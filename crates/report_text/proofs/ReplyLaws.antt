@@ -104,21 +104,28 @@ variant replies.NoBytes = 11
 variant (replies.Position asked n) = 12
 variant (replies.Length asked) = 13
 variant (replies.Empty cell) = 14
+variant replies.Releasers = 15
+variant replies.Height = 16
+variant (replies.Cords found) = 17
+variant (replies.Pool size) = 18
 
--- the variant of a text, by its first byte, or by its first and third
-abbrev refused_variant : ℕ → ℕ
-refused_variant b = if b == 117 then 10 else (if b == 110 then 11 else (if b == 112 then 12 else (if b == 101 then 14 else 13)))
+-- the variant of a text, by its first byte, or by its first and third, or by its first, third and fifth
+abbrev wanting_variant : ℕ → ℕ
+wanting_variant c = if c == 114 then 15 else (if c == 104 then 16 else (if c == 99 then 17 else 13))
 
-abbrev word_variant : ℕ → ℕ → ℕ
-word_variant b c = if b == 111 then 0 else (if b == 115 then 2 else (if b == 110 then (if c == 110 then 3 else 9) else (if b == 34 then 4 else (if b == 108 then 5 else (if b == 101 then 6 else (if b == 103 then 7 else (if b == 121 then 8 else refused_variant c)))))))
+abbrev refused_variant : ℕ → ℕ → ℕ
+refused_variant c d = if c == 117 then 10 else (if c == 110 then 11 else (if c == 112 then (if d == 111 then 18 else 12) else (if c == 101 then 14 else wanting_variant c)))
+
+abbrev word_variant : ℕ → ℕ → ℕ → ℕ
+word_variant b c d = if b == 111 then 0 else (if b == 115 then 2 else (if b == 110 then (if c == 110 then 3 else 9) else (if b == 34 then 4 else (if b == 108 then 5 else (if b == 101 then 6 else (if b == 103 then 7 else (if b == 121 then 8 else refused_variant c d)))))))
 
 abbrev variant_of : List ℕ → ℕ
-variant_of text = if is_digit (get_or text 0 0) then 1 else word_variant (get_or text 0 0) (get_or text 2 0)
+variant_of text = if is_digit (get_or text 0 0) then 1 else word_variant (get_or text 0 0) (get_or text 2 0) (get_or text 4 0)
 
 variant_of-number : (n : ℕ) → IsNumber n → variant_of (decimal n) ≡ 1
 variant_of-number n small =
     let digit : is_digit (get_or (decimal n) 0 0) ≡ true = ap (λ text. is_digit (get_or text 0 0)) (sym (append-nil (decimal n))) ∙ decimal-first n [] 0 in
-    ap (λ b. if b then 1 else word_variant (get_or (decimal n) 0 0) (get_or (decimal n) 2 0)) digit
+    ap (λ b. if b then 1 else word_variant (get_or (decimal n) 0 0) (get_or (decimal n) 2 0) (get_or (decimal n) 4 0)) digit
 
 variant_of-text : (reply : Reply) → IsReadableReply reply → variant_of (reply_text reply) ≡ variant reply
 variant_of-text (replies.Done new lost) p = refl
@@ -136,6 +143,10 @@ variant_of-text replies.NoBytes p = refl
 variant_of-text (replies.Position asked n) p = refl
 variant_of-text (replies.Length asked) p = refl
 variant_of-text (replies.Empty cell) p = refl
+variant_of-text replies.Releasers p = refl
+variant_of-text replies.Height p = refl
+variant_of-text (replies.Cords found) p = refl
+variant_of-text (replies.Pool size) p = refl
 
 same-variant : (x y : Reply) → IsReadableReply x → IsReadableReply y → reply_text x ≡ reply_text y → variant x ≡ variant y
 same-variant x y p q e = sym (variant_of-text x p) ∙ (ap variant_of e ∙ variant_of-text y q)
@@ -180,4 +191,8 @@ reply_injective replies.NoBytes replies.NoBytes p q e = refl
 reply_injective (replies.Position i m) (replies.Position j n) p q e = positions i j m n p.0 q.0 p.1 q.1 e
 reply_injective (replies.Length m) (replies.Length n) p q e = ap (λ k. replies.Length k) (decimal_injective m n p q (append_cancel_left (codes "! length ") (decimal m) (decimal n) e))
 reply_injective (replies.Empty m) (replies.Empty n) p q e = ap (λ k. replies.Empty k) (decimal_injective m n p q (append_cancel_left (codes "! empty ") (decimal m) (decimal n) e))
+reply_injective replies.Releasers replies.Releasers p q e = refl
+reply_injective replies.Height replies.Height p q e = refl
+reply_injective (replies.Cords m) (replies.Cords n) p q e = ap (λ k. replies.Cords k) (decimal_injective m n p q (append_cancel_left (codes "! cords ") (decimal m) (decimal n) e))
+reply_injective (replies.Pool m) (replies.Pool n) p q e = ap (λ k. replies.Pool k) (decimal_injective m n p q (append_cancel_left (codes "! pool ") (decimal m) (decimal n) e))
 reply_injective x y p q e = absurd (not-same (variant x) (variant y) (same-variant x y p q e) refl)

@@ -42,6 +42,8 @@ IsReadableReply (replies.Unset name) = All IsInLine name
 IsReadableReply (replies.Position asked n) = IsNumber asked × IsNumber n
 IsReadableReply (replies.Length asked) = IsNumber asked
 IsReadableReply (replies.Empty cell) = IsNumber cell
+IsReadableReply (replies.Cords found) = IsNumber found
+IsReadableReply (replies.Pool size) = IsNumber size
 IsReadableReply _ = Unit {0}
 
 -- an action of one of so many sessions, with the lengths of its kind, whose numbers are numbers of 64 bits

@@ -41,6 +41,10 @@ reply_text replies.NoBytes = codes "! no bytes"
 reply_text (replies.Position asked n) = codes "! position " ++ decimal asked ++ codes " " ++ decimal n
 reply_text (replies.Length asked) = codes "! length " ++ decimal asked
 reply_text (replies.Empty cell) = codes "! empty " ++ decimal cell
+reply_text replies.Releasers = codes "! releasers"
+reply_text replies.Height = codes "! height 12"
+reply_text (replies.Cords found) = codes "! cords " ++ decimal found
+reply_text (replies.Pool size) = codes "! pool " ++ decimal size
 
 -- what is shown and what is named is as short as a session's answers are
 abbrev pub IsShortReply : Reply → Type 0

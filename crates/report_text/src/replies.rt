@@ -100,5 +100,9 @@ pub fn push_reply(line: &mut Line, reply: &Reply)
         }
         Reply::Length { asked } => push_named_number(line, b"! length ", *asked),
         Reply::Empty { cell } => push_named_number(line, b"! empty ", *cell as u64),
+        Reply::Releasers => line.push_text(b"! releasers"),
+        Reply::Height => line.push_text(b"! height 12"),
+        Reply::Cords { found } => push_named_number(line, b"! cords ", *found),
+        Reply::Pool { size } => push_named_number(line, b"! pool ", *size as u64),
     }
 }

@@ -156,6 +156,15 @@ fn words_and_refusals(alloc: Global) -> Result<Items<Reply>, AllocError>
     )?;
     add(&mut answers, Reply::Length { asked: 2147483648 })?;
     add(&mut answers, Reply::Empty { cell: 63 })?;
+    add(&mut answers, Reply::Releasers)?;
+    add(&mut answers, Reply::Height)?;
+    add(
+        &mut answers,
+        Reply::Cords {
+            found: 18446744073709551615,
+        },
+    )?;
+    add(&mut answers, Reply::Pool { size: 4294967295 })?;
     Ok(answers)
 }
 
@@ -168,7 +177,8 @@ fn answers_have_their_texts(rt: HostRuntime) -> Result<(), Fail> {
     let wanted =
         b"session a\nok\nok ~2.0 20\nok ~2.0 20 ~1 gone\nok ~full\nok ~full ~18446744073709551615 gone\nok ~1 gone\n\
         0\n18446744073709551615\nsum 4294967295\nnone\nsession b1\nless\nequal\ngreater\nyes\nno\n! unset x\n! no bytes\n\
-        ! position 21 20\n! length 2147483648\n! empty 63\nhistory 0\npool 0 of 1\n";
+        ! position 21 20\n! length 2147483648\n! empty 63\n\
+        ! releasers\n! height 12\n! cords 18446744073709551615\n! pool 4294967295\nhistory 0\npool 0 of 1\n";
     assert_eq!(rt; sink.bytes(), wanted.as_slice());
     Ok(())
 }

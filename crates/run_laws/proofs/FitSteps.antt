@@ -144,6 +144,7 @@ module _ (P : ℕ → Type 0) where
   fit-outcome : (names : Environment) (command : Command) → AreFitNames P names → IsSoundCommand command → HasTextOf P command → FitAny (outcome names command)
   unfolding FitAny
   fit-outcome names (commands.Let a text) fit parts t = fit-named names a (plain (text_bytes text)) fit (fit-plain P (text_bytes text) (text-bytes P text t) (text-few 0 text parts.within))
+  fit-outcome names (commands.Ext a text) fit parts t = fit-named names a (plain (text_bytes text)) fit (fit-plain P (text_bytes text) (text-bytes P text t) (text-few 16 text parts.within))
   fit-outcome names (commands.Copy a b) fit parts t = fit-cord names a _ fit parts.names.0 (λ cord f. fit-named names b cord fit f)
   fit-outcome names (commands.Sub a pos n b) fit parts t = fit-cord names a _ fit parts.names.0 (λ cord f.
       fit-named names b (plain (take n (drop pos cord.bytes))) fit (fit-plain P (take n (drop pos cord.bytes)) (all-take P n (drop pos cord.bytes) (all-drop P pos cord.bytes f.bytes)) (omega (arith, f.size, length-take n (drop pos cord.bytes), length-drop pos cord.bytes))))

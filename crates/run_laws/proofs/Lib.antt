@@ -5,3 +5,4 @@ pub mod Counts
 pub mod ReadableRuns
 pub mod ByteLaws
 pub mod ShortLaws
+pub mod TreeLaws

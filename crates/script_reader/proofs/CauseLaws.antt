@@ -5,9 +5,10 @@ use Rattle.std.proofs.lemmas.Bool.Decides.{nat_tests}
 use Rattle.script_words.specs.Words.{cut}
 use Rattle.script_words.specs.Table.{word_of_table}
 use Rattle.script_reader.specs.Lines.{known, verb_at}
-use Rattle.script_reader.specs.Scripts.{said, step, entered}
+use Rattle.script_reader.specs.Scripts.{said, step, chosen, entered}
+use Rattle.script_words.specs.declared.verbs.Setting.TheVariants as settings
 use Rattle.script_reader.specs.declared.progress.Item.TheVariants as items
-use Rattle.script_reader.specs.CauseLines.{HasNoSpace, Begins, BytesAreTold, CommandsAreTold, UnbuiltAreTold, MisplacedAreTold, DuplicatesAreTold, SessionsAreCounted, CommandsAreCounted}
+use Rattle.script_reader.specs.CauseLines.{HasNoSpace, Begins, BytesAreTold, CommandsAreTold, UnbuiltAreTold, MisplacedAreTold, OptionsAreTold, DuplicatesAreTold, SessionsAreCounted, CommandsAreCounted}
 use Rattle.script_words.proofs.WordLaws.{IsFree, cut_again}
 use Rattle.script_reader.proofs.ScriptLines.{said_step}
 
@@ -36,6 +37,12 @@ unbuilt_told p line word rest h unbuilt = rw (h.said, begun line word rest h, un
 pub misplaced_told : MisplacedAreTold
 unfolding step said
 misplaced_told p line word rest verb h built placed = rw (h.said, begun line word rest h, built, placed) refl
+
+pub options_told : OptionsAreTold
+unfolding entered chosen
+options_told p line (settings.Pool m) n h fresh twice = said_step p line (items.Set (settings.Pool m)) h ∙ rw (fresh, twice) refl
+options_told p line (settings.Passes m) n h fresh twice = said_step p line (items.Set (settings.Passes m)) h ∙ rw (fresh, twice) refl
+options_told p line (settings.Stride m) n h fresh twice = said_step p line (items.Set (settings.Stride m)) h ∙ rw (fresh, twice) refl
 
 pub duplicates_told : DuplicatesAreTold
 unfolding entered

@@ -5,13 +5,16 @@ use Rattle.plain_cord.specs.declared.script.Command.{Command}
 use Rattle.plain_cord.specs.declared.script.Session.{Session}
 use Rattle.script_words.specs.declared.fault.Cause.TheVariants as causes
 use Rattle.script_words.specs.declared.verbs.Verb.{Verb}
+use Rattle.script_words.specs.declared.verbs.Setting.{Setting}
+use Rattle.script_words.specs.declared.verbs.Setting.TheVariants as settings
 use Rattle.script_words.specs.declared.verbs.FirstWord.TheVariants as firsts
 use Rattle.script_words.specs.Words.{is_shown}
 use Rattle.script_words.specs.Table.{word_of_table}
 use Rattle.script_words.specs.Spelling.{joined}
 use Rattle.script_reader.specs.declared.progress.Item.TheVariants as items
 use Rattle.script_reader.specs.declared.progress.Progress.{Progress}
-use Rattle.script_reader.specs.Scripts.{is_ignored, is_placed, is_called, step}
+use Rattle.script_reader.specs.declared.progress.Settings.{Settings}
+use Rattle.script_reader.specs.Scripts.{is_ignored, is_fresh, is_placed, is_called, step}
 use Rattle.script_reader.specs.Spelling.{SpellsItem}
 
 abbrev pub HasNoSpace : List ℕ → Type 0
@@ -42,6 +45,17 @@ UnbuiltAreTold = (p : Progress) (line word : List ℕ) (rest : Option (List ℕ)
 abbrev pub MisplacedAreTold : Type 0
 MisplacedAreTold = (p : Progress) (line word : List ℕ) (rest : Option (List ℕ)) (verb : Verb) → Begins line word rest
     → word_of_table word ≡ firsts.Built verb → is_placed p verb ≡ false → step p line ≡ Err causes.Misplaced
+
+-- the number that an option was given so far, if any
+abbrev pub number_given : Settings → Setting → Option ℕ
+number_given given (settings.Pool n) = given.pool
+number_given given (settings.Passes n) = given.passes
+number_given given (settings.Stride n) = given.stride
+
+-- an option that is spelled soundly and stands before the first session, for the second time
+abbrev pub OptionsAreTold : Type 0
+OptionsAreTold = (p : Progress) (line : List ℕ) (setting : Setting) (n : ℕ) → SpellsItem line (items.Set setting) → is_fresh p ≡ true
+    → number_given p.settings setting ≡ Some n → step p line ≡ Err causes.Duplicate
 
 -- a session that is spelled soundly and stands outside the others, with the name of one of them
 abbrev pub DuplicatesAreTold : Type 0

@@ -6,8 +6,8 @@ ghost use Rattle.script_reader.specs.Scripts.{read_of};
 ghost use Rattle.script_reader.specs.ScriptSpelling.{Spells};
 ghost use Rattle.script_reader.specs.Faults.{IsFirstFault};
 ghost use Rattle.script_reader.specs.Limits.{IsWithinLimits};
-ghost use Rattle.script_reader.specs.CauseLines.{BytesAreTold, CommandsAreTold, UnbuiltAreTold, MisplacedAreTold, DuplicatesAreTold, SessionsAreCounted};
-ghost use Rattle.script_reader.specs.CauseLines.{CommandsAreCounted};
+ghost use Rattle.script_reader.specs.CauseLines.{BytesAreTold, CommandsAreTold, UnbuiltAreTold, MisplacedAreTold, OptionsAreTold, DuplicatesAreTold};
+ghost use Rattle.script_reader.specs.CauseLines.{SessionsAreCounted, CommandsAreCounted};
 
 /// A script is read back from each of its spellings.
 pub fn spelled_script_is_read()
@@ -39,12 +39,13 @@ pub fn spelled_script_is_within_limits()
 {}
 
 /// Each cause comes where a line has it, apart from what a reader looks at first: a byte that isn't shown, a first word that is none, one that
-/// isn't built, a line out of place, a session's name for the second time, one session and one command too many.
+/// isn't built, a line out of place, an option or a session's name for the second time, one session and one command too many.
 pub fn causes_are_told()
     ensures bytes { BytesAreTold }
     ensures commands { CommandsAreTold }
     ensures unbuilt { UnbuiltAreTold }
     ensures misplaced { MisplacedAreTold }
+    ensures options { OptionsAreTold }
     ensures duplicates { DuplicatesAreTold }
     ensures sessions { SessionsAreCounted }
     ensures counts { CommandsAreCounted }

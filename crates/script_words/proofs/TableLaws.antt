@@ -10,6 +10,7 @@ use Rattle.plain_cord.specs.declared.script.Command.{Command}
 use Rattle.plain_cord.specs.declared.script.Command.TheVariants as commands
 use Rattle.script_words.specs.declared.verbs.CommandVerb.{CommandVerb}
 use Rattle.script_words.specs.declared.verbs.CommandVerb.TheVariants as kinds
+use Rattle.script_words.specs.declared.verbs.SettingVerb.{SettingVerb}
 use Rattle.script_words.specs.declared.verbs.Verb.{Verb}
 use Rattle.script_words.specs.declared.verbs.Verb.TheVariants as verbs
 use Rattle.script_words.specs.declared.verbs.NameVerb.TheVariants as name_verbs
@@ -20,7 +21,7 @@ use Rattle.script_words.specs.declared.verbs.CellNameVerb.TheVariants as cell_na
 use Rattle.script_words.specs.declared.verbs.TwoNamesVerb.TheVariants as two_names_verbs
 use Rattle.script_words.specs.declared.verbs.FirstWord.TheVariants as firsts
 use Rattle.script_words.specs.Words.{is_letter, is_name_byte}
-use Rattle.script_words.specs.Table.{Words, found_in, name_words, name_text_words, name_number_words, name_cell_words, cell_name_words, two_names_words, or_else, command_word, unbuilt_words, other_word, first_of, word_of_table, Form, OfName, OfNameText, OfNameNumber, OfNameCell, OfCellName, OfTwoNames, OfSub, command_of, form_of}
+use Rattle.script_words.specs.Table.{Words, found_in, name_words, name_text_words, name_number_words, name_cell_words, cell_name_words, two_names_words, setting_words, setting_first, or_else, command_word, unbuilt_words, other_word, first_of, word_of_table, Form, OfName, OfNameText, OfNameNumber, OfNameCell, OfCellName, OfTwoNames, OfSub, command_of, form_of}
 
 pub command_of_form : (command : Command) → command_of (form_of command) ≡ command
 command_of_form (commands.Clear a) = refl
@@ -28,6 +29,7 @@ command_of_form (commands.Sum a) = refl
 command_of_form (commands.Size a) = refl
 command_of_form (commands.Print a) = refl
 command_of_form (commands.Let a text) = refl
+command_of_form (commands.Ext a text) = refl
 command_of_form (commands.Append a text) = refl
 command_of_form (commands.Prepend a text) = refl
 command_of_form (commands.Find a text) = refl
@@ -53,6 +55,7 @@ form_of_command (OfName name_verbs.Sum a) = refl
 form_of_command (OfName name_verbs.Size a) = refl
 form_of_command (OfName name_verbs.Print a) = refl
 form_of_command (OfNameText name_text_verbs.Let a text) = refl
+form_of_command (OfNameText name_text_verbs.Ext a text) = refl
 form_of_command (OfNameText name_text_verbs.Append a text) = refl
 form_of_command (OfNameText name_text_verbs.Prepend a text) = refl
 form_of_command (OfNameText name_text_verbs.Find a text) = refl
@@ -119,25 +122,35 @@ command_words word verb e =
     (either_found kinds.CellName (found_in cell_name_words word) _ verb P (λ v f. words_found cell_name_words word v refl f)
     (sub_found word verb)))))) e
 
+settings_found : (word : List ℕ) (verb : Verb) → setting_first (found_in setting_words word) ≡ firsts.Built verb → is_word word ≡ true
+settings_found word verb e = by_found (found_in setting_words word) refl e
+  where
+    by_found : (o : Option SettingVerb) → found_in setting_words word ≡ o → setting_first o ≡ firsts.Built verb → is_word word ≡ true
+    by_found None is f = absurd cc
+    by_found (Some v) is f = words_found setting_words word v refl is
+
 other_words : (word : List ℕ) (verb : Verb) → other_word word ≡ firsts.Built verb → is_word word ≡ true
 other_words word verb e = by_session (bytes_eq word (codes "session")) refl e
   where
-    by_unbuilt : (t : Bool) → cond t firsts.Unbuilt firsts.Unknown ≡ firsts.Built verb → is_word word ≡ true
-    by_unbuilt true f = absurd cc
-    by_unbuilt false f = absurd cc
-
-    by_end : (t : Bool) → bytes_eq word (codes "end") ≡ t → cond t (firsts.Built verbs.End) (cond (list_any (bytes_eq word) unbuilt_words) firsts.Unbuilt firsts.Unknown) ≡ firsts.Built verb → is_word word ≡ true
+    by_end : (t : Bool) → bytes_eq word (codes "end") ≡ t → cond t (firsts.Built verbs.End) (setting_first (found_in setting_words word)) ≡ firsts.Built verb → is_word word ≡ true
     by_end true is f = word_same word (codes "end") is refl
-    by_end false is f = by_unbuilt (list_any (bytes_eq word) unbuilt_words) f
+    by_end false is f = settings_found word verb f
 
     by_session : (t : Bool) → bytes_eq word (codes "session") ≡ t
-        → cond t (firsts.Built verbs.Session) (cond (bytes_eq word (codes "end")) (firsts.Built verbs.End) (cond (list_any (bytes_eq word) unbuilt_words) firsts.Unbuilt firsts.Unknown)) ≡ firsts.Built verb → is_word word ≡ true
+        → cond t (firsts.Built verbs.Session) (cond (bytes_eq word (codes "end")) (firsts.Built verbs.End) (setting_first (found_in setting_words word))) ≡ firsts.Built verb → is_word word ≡ true
     by_session true is f = word_same word (codes "session") is refl
     by_session false is f = by_end (bytes_eq word (codes "end")) refl f
 
-pub built_word : (word : List ℕ) (verb : Verb) → word_of_table word ≡ firsts.Built verb → is_word word ≡ true
-built_word word verb e = by_command (command_word word) refl e
+table_words : (word : List ℕ) (verb : Verb) → first_of (command_word word) (other_word word) ≡ firsts.Built verb → is_word word ≡ true
+table_words word verb e = by_command (command_word word) refl e
   where
     by_command : (o : Option CommandVerb) → command_word word ≡ o → first_of o (other_word word) ≡ firsts.Built verb → is_word word ≡ true
     by_command None is f = other_words word verb f
     by_command (Some v) is f = command_words word v is
+
+pub built_word : (word : List ℕ) (verb : Verb) → word_of_table word ≡ firsts.Built verb → is_word word ≡ true
+built_word word verb e = by_unbuilt (list_any (bytes_eq word) unbuilt_words) e
+  where
+    by_unbuilt : (t : Bool) → cond t firsts.Unbuilt (first_of (command_word word) (other_word word)) ≡ firsts.Built verb → is_word word ≡ true
+    by_unbuilt true f = absurd cc
+    by_unbuilt false f = table_words word verb f

@@ -43,8 +43,9 @@ abbrev pub name_words : Words NameVerb
 name_words = (codes "clear", name_verbs.Clear) ∷ (codes "sum", name_verbs.Sum) ∷ (codes "size", name_verbs.Size) ∷ (codes "print", name_verbs.Print) ∷ []
 
 abbrev pub name_text_words : Words NameTextVerb
-name_text_words = (codes "let", name_text_verbs.Let) ∷ (codes "append", name_text_verbs.Append) ∷ (codes "prepend", name_text_verbs.Prepend) ∷
-    (codes "find", name_text_verbs.Find) ∷ (codes "starts", name_text_verbs.Starts) ∷ (codes "ends", name_text_verbs.Ends) ∷ []
+name_text_words = (codes "let", name_text_verbs.Let) ∷ (codes "ext", name_text_verbs.Ext) ∷ (codes "append", name_text_verbs.Append) ∷
+    (codes "prepend", name_text_verbs.Prepend) ∷ (codes "find", name_text_verbs.Find) ∷
+    (codes "starts", name_text_verbs.Starts) ∷ (codes "ends", name_text_verbs.Ends) ∷ []
 
 abbrev pub name_number_words : Words NameNumberVerb
 name_number_words = (codes "cutfront", name_number_verbs.CutFront) ∷ (codes "cutback", name_number_verbs.CutBack) ∷ (codes "at", name_number_verbs.At) ∷
@@ -76,15 +77,22 @@ command_word word =
     (or_else (option_map kinds.CellName (found_in cell_name_words word))
     (if bytes_eq word (codes "sub") then Some kinds.Sub else None))))))
 
--- the first words of lines that aren't built yet
+abbrev pub setting_words : Words SettingVerb
+setting_words = (codes "pool", setting_verbs.Pool) ∷ (codes "passes", setting_verbs.Passes) ∷ (codes "stride", setting_verbs.Stride) ∷ []
+
+-- The first words of lines that aren't built yet. A word that leaves this list is read as the table has it.
 abbrev pub unbuilt_words : List (List ℕ)
-unbuilt_words = codes "pool" ∷ codes "passes" ∷ codes "stride" ∷ codes "ext" ∷ codes "snap" ∷ codes "walk" ∷ codes "unsnap" ∷ []
+unbuilt_words = codes "stride" ∷ codes "ext" ∷ codes "snap" ∷ codes "walk" ∷ codes "unsnap" ∷ []
+
+abbrev pub setting_first : Option SettingVerb → FirstWord
+setting_first None = firsts.Unknown
+setting_first (Some verb) = firsts.Built (verbs.Set verb)
 
 abbrev pub other_word : List ℕ → FirstWord
 other_word word =
     if bytes_eq word (codes "session") then firsts.Built verbs.Session
     else (if bytes_eq word (codes "end") then firsts.Built verbs.End
-    else (if list_any (bytes_eq word) unbuilt_words then firsts.Unbuilt else firsts.Unknown))
+    else setting_first (found_in setting_words word))
 
 abbrev pub first_of : Option CommandVerb → FirstWord → FirstWord
 first_of None other = other
@@ -92,12 +100,13 @@ first_of (Some verb) other = firsts.Built (verbs.Do verb)
 
 -- what the word is as the first of a line
 abbrev pub word_of_table : List ℕ → FirstWord
-word_of_table word = first_of (command_word word) (other_word word)
+word_of_table word = if list_any (bytes_eq word) unbuilt_words then firsts.Unbuilt else first_of (command_word word) (other_word word)
 
 -- ---- limits on what stands behind them
 
 -- the least length of a text
 abbrev pub least_of : NameTextVerb → ℕ
+least_of name_text_verbs.Ext = 16
 least_of verb = 0
 
 -- the greatest number
@@ -127,6 +136,7 @@ name_command name_verbs.Print a = commands.Print a
 
 abbrev pub name_text_command : NameTextVerb → List ℕ → Text → Command
 name_text_command name_text_verbs.Let a text = commands.Let a text
+name_text_command name_text_verbs.Ext a text = commands.Ext a text
 name_text_command name_text_verbs.Append a text = commands.Append a text
 name_text_command name_text_verbs.Prepend a text = commands.Prepend a text
 name_text_command name_text_verbs.Find a text = commands.Find a text
@@ -185,6 +195,7 @@ form_of (commands.Sum a) = OfName name_verbs.Sum a
 form_of (commands.Size a) = OfName name_verbs.Size a
 form_of (commands.Print a) = OfName name_verbs.Print a
 form_of (commands.Let a text) = OfNameText name_text_verbs.Let a text
+form_of (commands.Ext a text) = OfNameText name_text_verbs.Ext a text
 form_of (commands.Append a text) = OfNameText name_text_verbs.Append a text
 form_of (commands.Prepend a text) = OfNameText name_text_verbs.Prepend a text
 form_of (commands.Find a text) = OfNameText name_text_verbs.Find a text

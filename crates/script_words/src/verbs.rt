@@ -3,8 +3,9 @@ ghost use Rattle.std.specs.Prelude.{◌≡◌, ◌<◌, ◌≤◌};
 ghost use Rattle.std.specs.List.{list_any};
 ghost use Rattle.std.specs.Str.{bytes_eq};
 ghost use Rattle.script_words.specs.Table.{found_in, name_words, name_text_words, name_number_words, name_cell_words, cell_name_words, two_names_words};
-ghost use Rattle.script_words.specs.Table.{unbuilt_words, command_word, word_of_table, least_of, most_of, least_setting, most_setting, name_command};
-ghost use Rattle.script_words.specs.Table.{name_text_command, name_number_command, name_cell_command, cell_name_command, two_names_command, setting_of};
+ghost use Rattle.script_words.specs.Table.{setting_words, unbuilt_words, command_word, other_word, word_of_table, least_of, most_of, least_setting};
+ghost use Rattle.script_words.specs.Table.{most_setting, name_command, name_text_command, name_number_command, name_cell_command, cell_name_command};
+ghost use Rattle.script_words.specs.Table.{two_names_command, setting_of};
 
 use plain_cord::{Command, Items, Text};
 
@@ -21,6 +22,7 @@ pub enum NameVerb {
 #[derive(Clone, Copy, Debug, PartialEq, Eq)]
 pub enum NameTextVerb {
     Let,
+    Ext,
     Append,
     Prepend,
     Find,
@@ -133,33 +135,42 @@ fn find_command(word: &[u8]) -> Option<CommandVerb>
     }
 }
 
-/// Whether lines with this first word aren't built yet.
+/// Whether lines with this first word aren't built yet, also where the table has it: a word that leaves this list is read.
 fn is_unbuilt(word: &[u8]) -> bool
     ensures { result ≡ list_any (bytes_eq word.now) unbuilt_words }
 {
-    word == b"pool".as_slice()
-        || word == b"passes".as_slice()
-        || word == b"stride".as_slice()
+    word == b"stride".as_slice()
         || word == b"ext".as_slice()
         || word == b"snap".as_slice()
         || word == b"walk".as_slice()
         || word == b"unsnap".as_slice()
 }
 
+/// What the word is as the first of a line that is no command, where such lines are built.
+fn find_other(word: &[u8]) -> FirstWord
+    ensures { result ≡ other_word word.now }
+{
+    if word == b"session".as_slice() {
+        FirstWord::Built(Verb::Session)
+    } else if word == b"end".as_slice() {
+        FirstWord::Built(Verb::End)
+    } else if let Some(verb) = SettingVerb::find(word) {
+        FirstWord::Built(Verb::Set(verb))
+    } else {
+        FirstWord::Unknown
+    }
+}
+
 /// What the word is as the first of a line.
 pub fn find_verb(word: &[u8]) -> FirstWord
     ensures { result ≡ word_of_table word.now }
 {
-    if let Some(verb) = find_command(word) {
-        FirstWord::Built(Verb::Do(verb))
-    } else if word == b"session".as_slice() {
-        FirstWord::Built(Verb::Session)
-    } else if word == b"end".as_slice() {
-        FirstWord::Built(Verb::End)
-    } else if is_unbuilt(word) {
+    if is_unbuilt(word) {
         FirstWord::Unbuilt
+    } else if let Some(verb) = find_command(word) {
+        FirstWord::Built(Verb::Do(verb))
     } else {
-        FirstWord::Unknown
+        find_other(word)
     }
 }
 
@@ -201,6 +212,8 @@ impl NameTextVerb {
     {
         if word == b"let".as_slice() {
             Some(NameTextVerb::Let)
+        } else if word == b"ext".as_slice() {
+            Some(NameTextVerb::Ext)
         } else if word == b"append".as_slice() {
             Some(NameTextVerb::Append)
         } else if word == b"prepend".as_slice() {
@@ -216,11 +229,14 @@ impl NameTextVerb {
         }
     }
 
-    /// The least length of the text, in bytes.
+    /// The least length of the text, in bytes. An external has more than the 15 bytes that a cord without a tree may have.
     pub fn least(self) -> u64
         ensures { result ≡ least_of self }
     {
-        0
+        match self {
+            NameTextVerb::Ext => 16,
+            _ => 0,
+        }
     }
 
     /// The command on the name and the text.
@@ -229,6 +245,7 @@ impl NameTextVerb {
     {
         match self {
             NameTextVerb::Let => Command::Let { a, text },
+            NameTextVerb::Ext => Command::Ext { a, text },
             NameTextVerb::Append => Command::Append { a, text },
             NameTextVerb::Prepend => Command::Prepend { a, text },
             NameTextVerb::Find => Command::Find { a, text },
@@ -362,6 +379,21 @@ impl TwoNamesVerb {
 }
 
 impl SettingVerb {
+    /// The one that has this word.
+    fn find(word: &[u8]) -> Option<SettingVerb>
+        ensures { result ≡ found_in setting_words word.now }
+    {
+        if word == b"pool".as_slice() {
+            Some(SettingVerb::Pool)
+        } else if word == b"passes".as_slice() {
+            Some(SettingVerb::Passes)
+        } else if word == b"stride".as_slice() {
+            Some(SettingVerb::Stride)
+        } else {
+            None
+        }
+    }
+
     /// The least number that the option may have.
     pub fn least(self) -> u64
         ensures { result ≡ least_setting self }

@@ -17,12 +17,12 @@ loop-chunk-preserved g c =
     record {
       bytes = ap (λ (r : Reading). r.bytes) found.new_is ∙ is.bytes;
       held = subst (Appends (g.K.Sink.held c.args.sink.now) (g.K.Sink.held c.write_all.new.sink)) (next ∙ sym moved)
-          (appends_more (g.K.Sink.held c.args.sink.now) (g.K.Sink.held c.loop-chunk.sink) (g.K.Sink.held c.write_all.new.sink) (take rest.at rest.bytes) chunk is.held c.in_ok-write_all.ensures.whole);
-      faults = c.in_ok-write_all.ensures.kept ∙ is.faults;
+          (appends_more (g.K.Sink.held c.args.sink.now) (g.K.Sink.held c.loop-chunk.sink) (g.K.Sink.held c.write_all.new.sink) (take rest.at rest.bytes) chunk is.held c.in_default-write_all.ensures.whole);
+      faults = c.in_default-write_all.ensures.kept ∙ is.faults;
     }
 
-pub returns-in_err-write_all-clause-part : goal.returns-in_err-write_all-clause-part
-returns-in_err-write_all-clause-part g c =
+pub returns-in-Err-clause-part : goal.returns-in-Err-clause-part
+returns-in-Err-clause-part g c =
     let is = c.loop-chunk.invariant in
     let rest = c.loop-chunk.rest in
     let chunk = c.in-Some.chunk.now in

@@ -1,5 +1,5 @@
 -- What the proof of `CordzDesk::act` needs beyond the search.
-use Rattle.std.proofs.Common.{◌<◌, ◌≤◌, ◌-◌, ◌^◌, ◌+◌, length, [], sym, refl, ap, ◌∙◌, subst}
+use Rattle.std.proofs.Common.{◌<◌, ◌≤◌, ◌-◌, ◌^◌, ◌+◌, length, [], sym, ap, ◌∙◌, subst}
 use Rattle.turn_desk.specs.Passes.{desk_view}
 use Rattle.record_rule.specs.Log.{after_deed, made_of}
 use Rattle.record_rule.specs.Steps.{registry_of, IsList, Makes, Does}
@@ -8,7 +8,7 @@ use Rattle.record_rule.specs.declared.views.DeskView.{DeskView}
 use Rattle.record_rule.specs.declared.views.DeskView.TheVariants.{Token}
 use Rattle.cordz_desk.specs.Asking.{Can, Performed}
 use Rattle.cordz_desk.specs.Shares.{tree_in, IsShare}
-use Rattle.cordz_desk.proofs.Finds.{at_turn, found_list, found_clock, found_can, does_of, deed_few}
+use Rattle.cordz_desk.proofs.Finds.{at_turn, found_small, found_list, found_clock, found_can, does_of, deed_few}
 use Rattle.cordz_desk.proofs.desk.CordzDesk.act.Goals as goal
 
 pub perform-deed-requires-clause-list : goal.perform-deed-requires-clause-list
@@ -56,3 +56,14 @@ pub returns-clause-done : goal.returns-clause-done
 returns-clause-done g c =
     let e = c.leave.ensures.view in
     ((registry_of c.perform-deed.new.value).clock, ap token_in e ∙ ap (λ (v : DeskView). done (registry_of c.perform-deed.new.value).clock c.perform-deed.result (token_in v)) c.enter-turn.ensures.pass.1)
+
+pub returns-clause-small : goal.returns-clause-small
+returns-clause-small g c =
+    let is = c.value.ensures.value ∙ c.enter-turn.ensures.turn.1 in
+    let p = token_in (desk_view c.args.pass.now) in
+    let d = c.perform-deed.result in
+    let y = c.perform-deed.new.value in
+    let x = c.enter-turn.result.taken.value in
+    found_small tree_in IsShare d x y p (at_turn tree_in IsShare _ _ p c.enter-turn.ensures.agreed c.requires.token)
+    (subst (λ z. Makes z y d) is c.perform-deed.ensures.makes)
+    (does_of c.args.ask d p (registry_of x) (registry_of y) c.requires.may (subst (λ z. Performed c.args.ask d (registry_of z) (registry_of y)) is c.perform-deed.ensures.performed))

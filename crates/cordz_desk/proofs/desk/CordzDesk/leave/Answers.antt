@@ -1,10 +1,8 @@
 -- What the proof of `CordzDesk::leave` needs beyond the search.
-use Rattle.std.proofs.Common.{sym, refl, ap, ◌∙◌, subst, inl}
+use Rattle.std.proofs.Common.{refl, ap, inl}
 use Rattle.turn_desk.specs.Passes.{desk_view}
-use Rattle.record_rule.specs.Steps.{registry_of, Leaves}
-use Rattle.record_rule.specs.Views.{token_in, done_view}
-use Rattle.record_rule.specs.declared.views.DeskView.{DeskView}
-use Rattle.cordz_desk.specs.Shares.{tree_in, IsShare}
+use Rattle.record_rule.specs.Steps.{registry_of}
+use Rattle.record_rule.specs.Views.{token_in}
 use Rattle.cordz_desk.proofs.desk.CordzDesk.leave.Goals as goal
 
 pub exit_to-requires-clause-leaves : goal.exit_to-requires-clause-leaves

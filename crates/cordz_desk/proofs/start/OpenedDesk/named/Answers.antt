@@ -1,9 +1,8 @@
 -- What the proof of `OpenedDesk::named` needs beyond the search.
-use Rattle.std.proofs.Common.{rules, arith, ◌≡◌, ℕ, suc, ◌+◌, List, [], ◌∷◌, ◌++◌, map, length, ap, sym, refl, ◌∙◌, subst}
+use Rattle.std.proofs.Common.{rules, arith, ◌≡◌, ℕ, suc, ◌+◌, [], ◌∷◌, ◌++◌, map, ap, sym, ◌∙◌}
 use mathlib.Core.List.{map-append}
 use Rattle.turn_desk.specs.Passes.{desk_view}
 use Rattle.node_pool.specs.Boxes.{below}
-use Rattle.record_rule.specs.declared.views.TokenView.{TokenView}
 use Rattle.record_rule.specs.Views.{new_token, token_in}
 use Rattle.cordz_desk.specs.Seeing.{first_tokens, root_after, token_after}
 use Rattle.cordz_desk.specs.Tokens.{token_of}

@@ -1,5 +1,5 @@
 -- So many tokens were given.
-use Rattle.std.proofs.Common.{◌≡◌, ◌≤◌, ◌+◌, [], map, vec_len, vec_capacity}
+use Rattle.std.proofs.Common.{◌≡◌, ◌≤◌, [], map, vec_len, vec_capacity}
 use Rattle.turn_desk.specs.Passes.{desk_view, IsOf, IsIdle}
 use Rattle.record_rule.specs.declared.views.DeskView.TheVariants.{Root}
 use Rattle.cordz_desk.specs.Seeing.{first_tokens}

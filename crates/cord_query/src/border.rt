@@ -1,0 +1,63 @@
+//! A needle that lies over the border of a chunk.
+ghost use Rattle.std.specs.Prelude.{◌≡◌, ◌+◌, ◌-◌, ◌<◌, ◌≤◌, length, min, take, drop};
+ghost use Rattle.memchr.specs.Find.{OccursAt, IsFirst};
+ghost use Rattle.cord_query.specs.Readers.{SameText};
+
+use chunk_reader::Chunks;
+use memchr::memmem::Finder;
+
+/// The most bytes of a needle for which a chunk's border is copied.
+pub(crate) const MOST_COPIED: usize = 256;
+
+/// Room for what lies around a border.
+const ROOM: usize = 2 * MOST_COPIED;
+
+/// Copies what stands from a place on, at most so many bytes. How many these are.
+fn copy_from(chunks: &mut Chunks<'_>, place: u64, most: usize, room: &mut [u8]) -> usize
+    requires within { place ≤ length chunks.old.bytes }
+    requires room { most ≤ length room.old }
+    ensures count { result ≡ min most (length (drop place chunks.old.bytes)) }
+    ensures bytes { take result room.new ≡ take result (drop place chunks.old.bytes) }
+    ensures same { SameText chunks.old chunks.new }
+{
+    chunks.seek(place);
+    let mut filled = 0;
+    while filled < most {
+        let piece = chunks.read(most - filled);
+        if piece.is_empty() {
+            return filled;
+        }
+        let end = filled + piece.len();
+        room[filled..end].copy_from_slice(piece);
+        filled = end;
+    }
+    filled
+}
+
+/// The least place in the chunk from which the needle goes on behind the chunk. What lies around the border is copied, and searched in
+/// one go, so that the time is linear in the needle's length.
+pub(crate) fn over_border(
+    finder: &Finder<'_>,
+    ahead: &mut Chunks<'_>,
+    start: u64,
+    chunk: &[u8],
+    needle: &[u8],
+) -> Option<u64>
+    requires few { length needle.now ≤ 256 }
+    requires some { 0 < length needle.now }
+    requires finder { finder.now ≡ needle.now }
+    requires ends { start + length chunk.now ≤ length ahead.old.bytes }
+    requires short { length ahead.old.bytes < 2147483648 }
+    ensures first { IsFirst (OccursAt ahead.old.bytes needle.now) (start + (length chunk.now + 1 - length needle.now)) (start + length chunk.now) result }
+    ensures same { SameText ahead.old ahead.new }
+{
+    let from = (chunk.len() + 1).saturating_sub(needle.len());
+    let place = start + from as u64;
+    let most = chunk.len() - from + (needle.len() - 1);
+    let mut window = [0u8; ROOM];
+    let filled = copy_from(ahead, place, most, &mut window);
+    match finder.find(&window[..filled]) {
+        Some(at) => Some(place + at as u64),
+        None => None,
+    }
+}

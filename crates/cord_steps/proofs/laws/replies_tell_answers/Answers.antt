@@ -1,0 +1,11 @@
+-- The facts of `replies_tell_answers` that the check leaves to be shown.
+use Rattle.cord_steps.proofs.ReplyLaws.{answers-differ, requests-differ, replied-back, replied}
+use Rattle.cord_steps.proofs.laws.replies_tell_answers.Goals as goal
+
+pub returns : goal.returns
+returns g c = record {
+  differ = answers-differ _;
+  requests = requests-differ;
+  back = replied-back _;
+  told = replied;
+}

@@ -1,0 +1,339 @@
+//! Cords that are cut and joined, get sums and lose them, step by step.
+ghost use Rattle.std.specs.Prelude.{◌≡◌, ◌≤◌, length};
+ghost use Rattle.pool_rule.specs.Trades.{SameHolds};
+ghost use Rattle.node_pool.specs.Opened.{opened_table, opened_numbers, opened_passes, opened_workers, opened_boxes};
+
+use cord_port::LogReleaser;
+use cord_value::{Cord, CordError};
+use node_pool::{Closed, Naming, Opened, Pool, Worker};
+use std::alloc::Global;
+use std::marker::Brand;
+use std::mem;
+
+type Boxes = LogReleaser;
+
+/// A step on a cord.
+#[derive(Clone, Copy, Debug)]
+enum Step {
+    Append(&'static [u8]),
+    CutFront(u64),
+    CutBack(u64),
+    Range(u64, u64),
+    SetSum(u32),
+    Copy,
+    /// A cord of so many `s` is added behind.
+    Join(usize),
+    JoinFront(usize),
+    Double,
+}
+
+/// How long the cord is, whether it is a tree, its sum, and its first and its last byte.
+type Seen = (u64, bool, Option<u32>, Option<u8>, Option<u8>);
+
+/// What came of a step, and what is seen then.
+type Outcome = (Result<(), CordError>, Seen);
+
+/// A byte of a cord.
+fn byte_at<P: Naming>(cord: &Cord<P>, at: u64) -> Option<u8>
+    requires within { at ≤ length cord.now.bytes }
+{
+    let mut reading = cord.chunks();
+    reading.seek(at);
+    reading.read(1).first().copied()
+}
+
+fn seen_of<P: Naming>(cord: &Cord<P>) -> Seen {
+    let size = cord.len();
+    let last = match size.checked_sub(1) {
+        Some(last) => byte_at(cord, last),
+        None => None,
+    };
+    (size, cord.is_tree(), cord.sum(), byte_at(cord, 0), last)
+}
+
+/// The cord in the place of another one, which is released.
+fn replace<P: Naming>(
+    pool: &Pool<P, Boxes>,
+    w: &mut Worker<P>,
+    cord: &mut Cord<P>,
+    made: Result<Cord<P>, CordError>,
+) -> Result<(), CordError>
+    requires room { length w.old.holds ≤ 96 }
+    ensures same { SameHolds w.old.holds w.new.holds }
+{
+    match made {
+        Ok(other) => {
+            mem::replace(cord, other).release(pool, w);
+            Ok(())
+        }
+        Err(error) => Err(error),
+    }
+}
+
+/// Adds a cord of so many `s`, which is released then.
+fn join<P: Naming>(
+    alloc: Global,
+    pool: &Pool<P, Boxes>,
+    w: &mut Worker<P>,
+    cord: &mut Cord<P>,
+    size: usize,
+    in_front: bool,
+) -> Result<(), CordError>
+    requires room { length w.old.holds ≤ 96 }
+    ensures same { SameHolds w.old.holds w.new.holds }
+{
+    let Ok(bytes) = vec![in alloc; b's'; size] else {
+        return Err(CordError::Memory);
+    };
+    let mut other = match Cord::from_bytes(alloc, pool, w, bytes.as_slice()) {
+        Ok(other) => other,
+        Err(error) => return Err(error),
+    };
+    let answer = if in_front {
+        cord.prepend_cord(alloc, pool, w, &mut other)
+    } else {
+        cord.append_cord(alloc, pool, w, &mut other)
+    };
+    other.release(pool, w);
+    answer
+}
+
+fn taken<P: Naming>(
+    alloc: Global,
+    pool: &Pool<P, Boxes>,
+    w: &mut Worker<P>,
+    cord: &mut Cord<P>,
+    step: Step,
+) -> Outcome
+    requires room { length w.old.holds ≤ 96 }
+    ensures same { SameHolds w.old.holds w.new.holds }
+{
+    let answer = match step {
+        Step::Append(bytes) => cord.append_bytes(alloc, pool, w, bytes),
+        Step::CutFront(n) => cord.cut_front(alloc, pool, w, n),
+        Step::CutBack(n) => cord.cut_back(alloc, pool, w, n),
+        Step::SetSum(value) => cord.set_sum(alloc, pool, w, value),
+        Step::Join(size) => join(alloc, pool, w, cord, size, false),
+        Step::JoinFront(size) => join(alloc, pool, w, cord, size, true),
+        Step::Double => cord.double(alloc, pool, w),
+        Step::Range(pos, n) => {
+            let made = cord.sub(alloc, pool, w, pos, n);
+            replace(pool, w, cord, made)
+        }
+        Step::Copy => {
+            let made = cord.copy(pool, w);
+            replace(pool, w, cord, made)
+        }
+    };
+    (answer, seen_of(cord))
+}
+
+/// What three steps on a cord of these bytes come to. The cord is released then.
+fn all_taken<P: Naming>(
+    alloc: Global,
+    pool: &Pool<P, Boxes>,
+    w: &mut Worker<P>,
+    bytes: &[u8],
+    steps: [Step; 3],
+) -> Result<[Outcome; 3], CordError>
+    requires room { length w.old.holds ≤ 96 }
+    ensures same { SameHolds w.old.holds w.new.holds }
+{
+    let mut cord = match Cord::from_bytes(alloc, pool, w, bytes) {
+        Ok(cord) => cord,
+        Err(error) => return Err(error),
+    };
+    let [one, two, three] = steps;
+    let first = taken(alloc, pool, w, &mut cord, one);
+    let second = taken(alloc, pool, w, &mut cord, two);
+    let third = taken(alloc, pool, w, &mut cord, three);
+    cord.release(pool, w);
+    Ok([first, second, third])
+}
+
+fn outcomes_of<P: Naming>(
+    alloc: Global,
+    opened: Opened<Boxes>,
+    bytes: &[u8],
+    steps: [Step; 3],
+) -> Option<(Result<[Outcome; 3], CordError>, u32)>
+    requires table { opened_table opened ≡ P.table }
+    requires numbers { opened_numbers opened ≡ P.size }
+    requires passes { opened_passes opened ≡ P.limit }
+    requires boxes { opened_boxes opened ≡ P.boxes }
+    requires workers { (opened_workers opened ≡ P.workers) × (P.workers ≡ 1) }
+{
+    let Ok((pool, mut workers)) = opened.named::<P>(alloc) else {
+        return None;
+    };
+    let outcomes = all_taken(alloc, &pool, &mut workers[0], bytes, steps);
+    let Closed {
+        in_use,
+        releasers: _,
+    } = pool.close(workers);
+    Some((outcomes, in_use))
+}
+
+const TWENTY: &[u8] = b"0123456789abcdefghij";
+
+#[test]
+fn ranges_cuts_joins_and_sums_leave_what_they_say(rt: HostRuntime) {
+    let alloc = rt.alloc();
+    let whole = (20, true, None, Some(b'0'), Some(b'j'));
+    let none = (0, false, None, None, None);
+    for (numbers, bytes, steps, seen) in [
+        (
+            2u32,
+            TWENTY,
+            [Step::Range(0, 16), Step::Range(14, 5), Step::Range(9, 1)],
+            [
+                (Ok(()), (16u64, true, None, Some(b'0'), Some(b'f'))),
+                (Ok(()), (2, false, None, Some(b'e'), Some(b'f'))),
+                (Ok(()), none),
+            ],
+        ),
+        (
+            2,
+            TWENTY,
+            [Step::CutFront(21), Step::CutBack(4), Step::CutFront(16)],
+            [
+                (
+                    Err(CordError::Position {
+                        asked: 21,
+                        size: 20,
+                    }),
+                    whole,
+                ),
+                (Ok(()), (16, true, None, Some(b'0'), Some(b'f'))),
+                (Ok(()), none),
+            ],
+        ),
+        (
+            1,
+            TWENTY,
+            [Step::CutBack(1), Step::Range(0, 20), Step::CutFront(5)],
+            [
+                (Err(CordError::NoNumber { seen: 1 }), whole),
+                (Ok(()), whole),
+                (Ok(()), (15, false, None, Some(b'5'), Some(b'j'))),
+            ],
+        ),
+        (
+            2,
+            b"abc",
+            [Step::SetSum(7), Step::Append(b""), Step::Append(b"d")],
+            [
+                (Ok(()), (3, true, Some(7), Some(b'a'), Some(b'c'))),
+                (Ok(()), (3, true, Some(7), Some(b'a'), Some(b'c'))),
+                (Ok(()), (4, false, None, Some(b'a'), Some(b'd'))),
+            ],
+        ),
+        (
+            2,
+            b"abc",
+            [Step::SetSum(7), Step::Copy, Step::CutFront(0)],
+            [
+                (Ok(()), (3, true, Some(7), Some(b'a'), Some(b'c'))),
+                (Ok(()), (3, true, Some(7), Some(b'a'), Some(b'c'))),
+                (Ok(()), (3, true, Some(7), Some(b'a'), Some(b'c'))),
+            ],
+        ),
+        (
+            2,
+            b"",
+            [Step::SetSum(1), Step::SetSum(2), Step::Append(b"x")],
+            [
+                (Ok(()), (0, true, Some(1), None, None)),
+                (Ok(()), (0, true, Some(2), None, None)),
+                (Ok(()), (1, false, None, Some(b'x'), Some(b'x'))),
+            ],
+        ),
+        (
+            3,
+            TWENTY,
+            [Step::SetSum(7), Step::SetSum(8), Step::CutBack(1)],
+            [
+                (Ok(()), (20, true, Some(7), Some(b'0'), Some(b'j'))),
+                (Ok(()), (20, true, Some(8), Some(b'0'), Some(b'j'))),
+                (Ok(()), (19, true, None, Some(b'0'), Some(b'i'))),
+            ],
+        ),
+        (
+            3,
+            TWENTY,
+            [Step::Join(512), Step::Join(16), Step::CutBack(512)],
+            [
+                (Ok(()), (532, true, None, Some(b'0'), Some(b's'))),
+                (
+                    Err(CordError::NoNumber { seen: 3 }),
+                    (532, true, None, Some(b'0'), Some(b's')),
+                ),
+                (Ok(()), whole),
+            ],
+        ),
+        (
+            3,
+            TWENTY,
+            [Step::Join(511), Step::CutBack(0), Step::CutFront(5)],
+            [
+                (Err(CordError::NoNumber { seen: 3 }), whole),
+                (Ok(()), whole),
+                (Ok(()), (15, false, None, Some(b'5'), Some(b'j'))),
+            ],
+        ),
+        (
+            5,
+            b"abc",
+            [Step::Join(600), Step::JoinFront(600), Step::JoinFront(0)],
+            [
+                (Ok(()), (603, true, None, Some(b'a'), Some(b's'))),
+                (Ok(()), (1203, true, None, Some(b's'), Some(b's'))),
+                (Ok(()), (1203, true, None, Some(b's'), Some(b's'))),
+            ],
+        ),
+        (
+            4,
+            b"",
+            [Step::Join(600), Step::SetSum(5), Step::Join(1)],
+            [
+                (Ok(()), (600, true, None, Some(b's'), Some(b's'))),
+                (Ok(()), (600, true, Some(5), Some(b's'), Some(b's'))),
+                (Ok(()), (601, true, None, Some(b's'), Some(b's'))),
+            ],
+        ),
+        (
+            8,
+            TWENTY,
+            [Step::Double, Step::Double, Step::Join(600)],
+            [
+                (Ok(()), (40, true, None, Some(b'0'), Some(b'j'))),
+                (Ok(()), (80, true, None, Some(b'0'), Some(b'j'))),
+                (Ok(()), (680, true, None, Some(b'0'), Some(b's'))),
+            ],
+        ),
+        (
+            3,
+            b"0123456789",
+            [Step::Double, Step::SetSum(1), Step::Double],
+            [
+                (Ok(()), (20, true, None, Some(b'0'), Some(b'9'))),
+                (Ok(()), (20, true, Some(1), Some(b'0'), Some(b'9'))),
+                (
+                    Err(CordError::NoNumber { seen: 3 }),
+                    (20, true, Some(1), Some(b'0'), Some(b'9')),
+                ),
+            ],
+        ),
+    ] {
+        let Ok(opened) = Opened::start(alloc, numbers, 2, 1, Vec::new(alloc)) else {
+            assert!(&rt; false, "memory");
+            return;
+        };
+        let answer = outcomes_of::<Brand>(alloc, opened, bytes, steps);
+        assert_eq!(rt;
+            answer,
+            Some((Ok(seen), 0)),
+            "{steps:?} in a pool of {numbers}"
+        );
+    }
+}
