@@ -26,3 +26,6 @@ returns-in-Starts-clause-steady g c = same-steady _ _ _ refl
 
 pub returns-in-Ends-clause-steady : goal.returns-in-Ends-clause-steady
 returns-in-Ends-clause-steady g c = same-steady _ _ _ refl
+
+pub returns-in-Ext-clause-steady : goal.returns-in-Ext-clause-steady
+returns-in-Ext-clause-steady g c = same-steady _ _ _ refl
