@@ -1,5 +1,5 @@
 -- What each command comes to on byte strings, and which name it sets, where the names that it reads were set.
-use Rattle.std.proofs.Common.{◌≡◌, ◌∙◌, sym, ap, subst, refl, ℕ, ◌+◌, ◌-◌, ◌<◌, ◌≤◌, List, ◌++◌, length, take, drop, Option, Some, None, Bool, true, false, cond, eqb, leb, eq-eqb, ne_eqb, arith}
+use Rattle.std.proofs.Common.{◌≡◌, ◌∙◌, sym, ap, subst, refl, ℕ, ◌+◌, ◌-◌, ◌<◌, ◌≤◌, List, ◌++◌, length, take, drop, Option, Some, None, Bool, true, false, eq-eqb, ne_eqb, arith}
 use Rattle.std.specs.Prelude.{option_map, nat_le, ◌==◌, if◌then◌else◌, not, nat_eq, IsTrue}
 use Rattle.std.specs.Str.{bytes_eq}
 use Rattle.std.proofs.lemmas.Bool.{le-leb, lt-leb}
@@ -18,13 +18,13 @@ use Rattle.plain_cord.specs.Outcomes.{Outcome, outcome, answered, with_found, wi
 use Rattle.tree_shapes.specs.Cords as shapes
 use Rattle.tree_shapes.specs.Cords.{CordShape, cord_of_bytes, with_bytes_added, with_cord_added, doubled, sub_cord, front_cut, back_cut}
 use Rattle.tree_shapes.proofs.KeepLaws.{if_true, if_false}
-use Rattle.cord_steps.specs.Cords.{Cord, Names, plain_of, plain_names, shape_of, shape_in, note_in}
-use Rattle.cord_steps.specs.Doings.{Manner, Fresh, Copied, Changed, Doing, doing, joined_shape}
+use Rattle.cord_steps.specs.Cords.{Cord, Names, plain_of, plain_names, shape_in, note_in}
+use Rattle.cord_steps.specs.Doings.{Fresh, Copied, Changed, Doing, doing, joined_shape}
 use Rattle.tree_shapes.specs.Cords.{NeedsHeight12, level_in}
 use Rattle.tree_shapes.proofs.CordLaws.{cord-low}
 use Rattle.plain_cord.specs.declared.reply.NewMark.TheVariants as marks
 use Rattle.tree_shapes.specs.Cords.{external_shape}
-use Rattle.cord_steps.specs.Answers.{Request, Plain, External, Answer, Told, Releasers, Height, Cords, Pool}
+use Rattle.cord_steps.specs.Answers.{Plain, External, Answer, Told, Releasers, Height, Cords, Pool}
 use Rattle.cord_steps.specs.Boarding.{left}
 use Rattle.cord_steps.specs.Doings.{external_doing}
 use Rattle.cord_steps.specs.Steps.{cord_with, has_box, IsAnswer, IsDoneAnswer, IsExternalAnswer}

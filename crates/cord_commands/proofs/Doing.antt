@@ -1,7 +1,7 @@
 -- What was done to names is the plain step over trees.
 use mathlib.Core.Path.{fun_ext}
-use Rattle.std.proofs.Common.{◌≡◌, ◌∙◌, sym, ap, subst, refl, ℕ, ◌+◌, ◌<◌, ◌≤◌, List, [], length, Option, Some, None, Bool, true, false, Result, Ok, Err, inl, inr, arith}
-use Rattle.std.specs.Prelude.{option_map, if◌then◌else◌, IfOk, IfErr, IsTrue, is_some}
+use Rattle.std.proofs.Common.{◌≡◌, ◌∙◌, sym, ap, subst, refl, ℕ, ◌+◌, ◌≤◌, List, [], length, Option, Some, None, Bool, true, false, Result, Ok, Err, arith}
+use Rattle.std.specs.Prelude.{option_map, if◌then◌else◌, IfOk, IfErr, IsTrue}
 use Rattle.std.specs.declared.alloc.AllocError.{AllocError}
 use Rattle.std.specs.Str.{bytes_eq}
 use Rattle.plain_cord.specs.declared.reply.Reply.{Reply}
@@ -9,9 +9,8 @@ use Rattle.plain_cord.specs.declared.reply.Reply.TheVariants as replies
 use Rattle.plain_cord.specs.declared.script.Command.{Command}
 use Rattle.plain_cord.specs.States.{CordState}
 use Rattle.node_forest.specs.Label.{Node}
-use Rattle.tree_shapes.specs.Cords.{CordShape, IsTreeFor, NeedsHeight12}
+use Rattle.tree_shapes.specs.Cords.{IsTreeFor, NeedsHeight12}
 use Rattle.tree_shapes.specs.Shape.{length_of}
-use Rattle.node_edges.specs.Text.{text}
 use Rattle.node_edges.specs.Trees.{IsWellFormed}
 use Rattle.node_edges.specs.Trees as edges
 use Rattle.node_edges.proofs.TextLaws.{length-whole}
@@ -23,7 +22,7 @@ use Rattle.cord_value.specs.Refusals.{IsBalanced}
 use Rattle.cord_value.specs.declared.refusals.CordError.{CordError}
 use Rattle.cord_value.specs.declared.refusals.CordError.TheVariants as errors
 use Rattle.cord_value.specs.Views.{CordView, IsTreeOf, cord_shape}
-use Rattle.cord_steps.specs.Answers.{Request, Plain}
+use Rattle.cord_steps.specs.Answers.{Plain}
 use Rattle.cord_steps.specs.Cords.{Cord, naming, shape_of}
 use Rattle.cord_steps.specs.Cords as steps
 use Rattle.cord_steps.specs.Doings.{Doing}
@@ -34,7 +33,7 @@ use Rattle.cord_commands.specs.declared.answer.Answer.{Answer}
 use Rattle.cord_commands.specs.declared.answer.Answer.TheVariants.{Told, Releasers, Height, Cords, Pool}
 use Rattle.cord_commands.specs.Answers.{ok, told_by, refusal_of, IsSet}
 use Rattle.cord_commands.specs.Bare.{IsBareCord, AreBare, StepsTo}
-use Rattle.cord_commands.specs.Does.{NoReport, AreFor, IsAt, AreFormed, IsCause, Does}
+use Rattle.cord_commands.specs.Does.{NoReport, IsAt, AreFormed, IsCause, Does}
 use Rattle.cord_commands.specs.Views.{cord_in, names_of, AreSame, IsSetTo}
 use Rattle.cord_commands.proofs.Comings.{ComesTo, Answers, comes-done, answers-told, comes-height, comes-cords, comes-pool}
 use Rattle.cord_commands.proofs.Stepping.{IsOther}

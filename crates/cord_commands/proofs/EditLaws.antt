@@ -1,19 +1,16 @@
 -- Each edit of a name's cord, done or refused, as its command's plain step over trees.
-use Rattle.std.proofs.Common.{◌≡◌, ◌≢◌, ◌∙◌, sym, ap, subst, refl, ℕ, zero, suc, ◌+◌, ◌-◌, ◌<◌, ◌≤◌, List, [], ◌∷◌, ◌++◌, length, take, drop, Option, Some, None, Bool, true, false, eqb, ne_eqb, eq-eqb, Result, Ok, Err, inl, inr, arith}
-use Rattle.std.specs.Prelude.{not, nat_eq, nat_le, if◌then◌else◌, IfOk, IfErr, OnErr}
+use Rattle.std.proofs.Common.{◌≡◌, ◌≢◌, ◌∙◌, sym, ap, subst, refl, ℕ, zero, suc, ◌+◌, ◌-◌, ◌<◌, ◌≤◌, List, [], ◌∷◌, ◌++◌, length, take, drop, Some, Bool, true, false, ne_eqb, Result, Ok, Err, inl, inr, arith}
+use Rattle.std.specs.Prelude.{not, nat_eq, nat_le, IfOk, IfErr, OnErr}
 use Rattle.std.specs.Str.{bytes_eq}
 use Rattle.std.specs.declared.alloc.AllocError.{AllocError}
-use Rattle.std.proofs.lemmas.Bool.{le-leb}
 use Rattle.std.proofs.lemmas.List.{length-take, length-drop}
 use Rattle.std.proofs.lemmas.Slice.Eq.{bytes_eq-Decides}
-use Rattle.std.proofs.Math.Seq.{take-length}
 use Rattle.node_forest.specs.declared.side.Side.{Side}
 use Rattle.node_forest.specs.declared.side.Side.TheVariants.{Front, Back}
 use Rattle.plain_cord.specs.declared.reply.Reply.TheVariants as replies
-use Rattle.plain_cord.specs.declared.script.Command.{Command}
 use Rattle.plain_cord.specs.declared.script.Command.TheVariants as commands
 use Rattle.plain_cord.specs.declared.script.Text.{Text}
-use Rattle.plain_cord.specs.States.{CordState, plain, changed}
+use Rattle.plain_cord.specs.States.{changed}
 use Rattle.plain_cord.specs.Texts.{text_bytes}
 use Rattle.tree_shapes.specs.Cords as shapes
 use Rattle.tree_shapes.specs.Cords.{CordShape, IsOneOf, IsBytesAdded, IsDoubled, IsBackCut, with_bytes_added, with_cord_added, doubled, front_cut, back_cut}
@@ -38,11 +35,10 @@ use Rattle.cord_commands.specs.declared.answer.Answer.TheVariants.{Told}
 use Rattle.cord_commands.specs.declared.edits.Edit.{Edit}
 use Rattle.cord_commands.specs.declared.edits.Edit.TheVariants.{Add, Double, CutFront, CutBack, SetSum}
 use Rattle.cord_commands.specs.Answers.{ok, refusal_of, IsAnswerTo}
-use Rattle.cord_commands.specs.Bare.{AreBare}
 use Rattle.cord_commands.specs.Does.{Does}
 use Rattle.cord_commands.specs.Edits.{IsEdited, IsEditRefused, IsTextRefused, IsApt, command_of, adding, joining}
 use Rattle.cord_commands.specs.Views.{cord_in, names_of, AreSame, IsSetTo}
-use Rattle.cord_commands.proofs.Comings.{ComesTo, Answers, add-comes, add-long, join-comes, join-long, cut_front-comes, cut_front-beyond, cut_back-comes, cut_back-beyond, sum-comes}
+use Rattle.cord_commands.proofs.Comings.{ComesTo, add-comes, add-long, join-comes, join-long, cut_front-comes, cut_front-beyond, cut_back-comes, cut_back-beyond, sum-comes}
 use Rattle.cord_commands.proofs.Doing.{does-told, some-answer, are-bare, found-in}
 use Rattle.cord_commands.proofs.Edited.{changes, alters_to, changed-bytes, beside-same, beside-length, set-by, refused-by}
 use Rattle.cord_commands.proofs.Refused.{copied-shape}

@@ -1,28 +1,21 @@
 -- What a change of a name's cord comes to, and its refusal, as the plain step over trees has them.
-use Rattle.std.proofs.Common.{◌≡◌, ◌≢◌, ◌∙◌, sym, ap, subst, refl, ℕ, ◌+◌, ◌-◌, ◌<◌, ◌≤◌, List, [], ◌∷◌, ◌++◌, length, take, drop, Option, Some, None, Bool, true, false, cond, eqb, eqb-true, ne_eqb, inl, inr, append-nil, arith}
-use Rattle.std.specs.Prelude.{option_map, ◌&&◌, not, nat_eq, if◌then◌else◌, is_some, IsSome, IsTrue}
-use Rattle.std.specs.Str.{bytes_eq}
+use Rattle.std.proofs.Common.{◌≡◌, ◌∙◌, sym, ap, subst, refl, ℕ, ◌+◌, ◌<◌, ◌≤◌, List, [], ◌∷◌, ◌++◌, length, Option, Some, None, Bool, true, false, eqb, eqb-true, append-nil, arith}
+use Rattle.std.specs.Prelude.{option_map, ◌&&◌, not, nat_eq, is_some, IsSome}
 use Rattle.std.proofs.lemmas.Bool.{cond_both}
-use Rattle.std.proofs.lemmas.List.{length-append, length-take, length-drop}
-use Rattle.std.proofs.lemmas.Slice.Eq.{bytes_eq-Decides}
-use Rattle.std.proofs.Math.Seq.{take-length}
+use Rattle.std.proofs.lemmas.List.{length-append}
 use Rattle.node_forest.specs.declared.side.Side.{Side}
 use Rattle.node_forest.specs.declared.side.Side.TheVariants.{Front, Back}
 use Rattle.node_forest.specs.Label.{Node}
 use Rattle.node_edges.specs.Trees as edges
 use Rattle.plain_cord.specs.declared.reply.Reply.TheVariants as replies
 use Rattle.plain_cord.specs.declared.script.Command.{Command}
-use Rattle.plain_cord.specs.declared.script.Command.TheVariants as commands
 use Rattle.plain_cord.specs.States.{CordState, plain, changed}
-use Rattle.plain_cord.specs.Texts.{text_bytes}
-use Rattle.tree_shapes.specs.Cords as shapes
-use Rattle.tree_shapes.specs.Cords.{CordShape, IsOneOf, with_bytes_added, with_cord_added, doubled, front_cut, back_cut, NeedsHeight12}
+use Rattle.tree_shapes.specs.Cords.{CordShape, NeedsHeight12}
 use Rattle.tree_shapes.specs.Growth.{beside}
-use Rattle.tree_shapes.proofs.KeepLaws.{if_true, if_false}
 use Rattle.pool_rule.specs.Views.{View}
 use Rattle.ordered_names.specs.declared.names.Names.{Names}
 use Rattle.ordered_names.specs.Named.{named}
-use Rattle.cord_value.specs.Changes.{IsRefused, IsCutRefused}
+use Rattle.cord_value.specs.Changes.{IsRefused}
 use Rattle.cord_value.specs.Refusals.{IsBalanced}
 use Rattle.cord_value.specs.declared.refusals.CordError.{CordError}
 use Rattle.cord_value.specs.declared.refusals.CordError.TheVariants as errors
@@ -30,19 +23,17 @@ use Rattle.cord_value.specs.Views.{CordView, IsTreeOf, cord_shape}
 use Rattle.cord_steps.specs.Answers.{Plain}
 use Rattle.cord_steps.specs.Cords.{Cord, plain_of, shape_in}
 use Rattle.cord_steps.specs.Cords as steps
-use Rattle.cord_steps.specs.Doings.{Manner, Changed, Doing, joined_shape}
-use Rattle.cord_steps.specs.Marks.{needs_pass, needs_numbers}
+use Rattle.cord_steps.specs.Doings.{Changed, Doing}
 use Rattle.cord_steps.specs.Whole.{IsWithin}
 use Rattle.cord_commands.specs.declared.answer.Answer.{Answer}
-use Rattle.cord_commands.specs.declared.answer.Answer.TheVariants.{Told, Height, Cords, Pool}
+use Rattle.cord_commands.specs.declared.answer.Answer.TheVariants.{Told}
 use Rattle.cord_commands.specs.Answers.{ok, refusal_of}
 use Rattle.cord_commands.specs.Bare.{AreBare}
-use Rattle.cord_commands.specs.Does.{AreFormed, Does}
-use Rattle.cord_commands.specs.Edits.{adding, joining}
-use Rattle.cord_commands.specs.Views.{cord_in, names_of, AreSame, IsSetTo}
+use Rattle.cord_commands.specs.Does.{Does}
+use Rattle.cord_commands.specs.Views.{names_of, AreSame, IsSetTo}
 use Rattle.cord_commands.proofs.Comings.{ComesTo, Answers}
-use Rattle.cord_commands.proofs.Doing.{Refuses, Shows, does-set, does-told, refused-does, some-answer, are-bare, found-in}
-use Rattle.cord_commands.proofs.Refused.{copied-shape, some-tree}
+use Rattle.cord_commands.proofs.Doing.{does-set, does-told, refused-does, some-answer, are-bare}
+use Rattle.cord_commands.proofs.Refused.{copied-shape}
 
 abbrev pub changes : steps.Names → List ℕ → Bool → CordShape → Doing
 changes names a alters made = record { name = a; manner = Changed alters; old = names a; made = made }

@@ -1,5 +1,5 @@
 -- Why no cord is made, by what is to be made.
-use Rattle.std.proofs.Common.{◌≡◌, ◌∙◌, sym, ap, subst, refl, ℕ, ◌<◌, ◌≤◌, List, length, Option, Some, None, Bool, true, false, Result, Ok, Err, arith}
+use Rattle.std.proofs.Common.{◌≡◌, sym, ap, subst, refl, ℕ, ◌<◌, ◌≤◌, List, length, Option, Some, None, Result, Ok, Err, arith}
 use Rattle.std.specs.Prelude.{IfOk, IfErr, IsTrue, IsSome, is_some, nat_le, option_map}
 use Rattle.std.proofs.lemmas.Bool.{lt-leb}
 use Rattle.tree_shapes.specs.Cords.{CordShape, cord_of_bytes, NeedsHeight12}
@@ -15,9 +15,8 @@ use Rattle.cord_value.specs.Refusals.{IsMakeRefused, IsCopyRefused}
 use Rattle.cord_value.specs.declared.refusals.CordError.{CordError}
 use Rattle.cord_value.specs.declared.refusals.CordError.TheVariants as errors
 use Rattle.cord_value.specs.Views.{CordView, cord_shape}
-use Rattle.cord_steps.specs.Cords.{Cord, Note, shape_in, note_in}
-use Rattle.cord_steps.specs.Doings.{Manner, Fresh, Copied, Doing}
-use Rattle.cord_commands.specs.Bare.{IsBareCord, AreBare}
+use Rattle.cord_steps.specs.Cords.{Cord, shape_in, note_in}
+use Rattle.cord_steps.specs.Doings.{Fresh, Copied, Doing}
 use Rattle.cord_commands.specs.Does.{AreFormed}
 use Rattle.cord_commands.specs.Views.{cord_in, names_of}
 use Rattle.cord_commands.proofs.Doing.{Refuses, Shows, are-bare, found-in}

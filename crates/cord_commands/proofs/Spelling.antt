@@ -1,5 +1,5 @@
 -- A piece that stands several times.
-use Rattle.std.proofs.Common.{◌≡◌, ◌∙◌, sym, ap, refl, ℕ, zero, suc, List, [], ◌∷◌, ◌++◌, append-nil}
+use Rattle.std.proofs.Common.{◌≡◌, ap, refl, ℕ, zero, suc, List, [], ◌∷◌, ◌++◌, append-nil}
 use Rattle.std.specs.List.{repeat, AllZip}
 use Rattle.plain_cord.specs.Texts.{repeated}
 

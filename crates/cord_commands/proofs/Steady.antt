@@ -1,8 +1,8 @@
 -- How steady workers follow each other, and what the calls on cords come to.
-use Rattle.std.proofs.Common.{◌≡◌, ◌∙◌, sym, ap, refl, ℕ, ◌+◌, List, [], ◌++◌, length, drop, sum_by, Option, Some, None, Result, Ok, Err, ◌-◌, arith}
+use Rattle.std.proofs.Common.{◌≡◌, ◌∙◌, sym, ap, refl, ℕ, ◌+◌, List, [], ◌++◌, length, drop, Result, Ok, Err, arith}
 use Rattle.std.specs.Prelude.{IfOk, IfErr, OnErr}
 use Rattle.pool_rule.specs.Gains.{no_gain, gain_then}
-use Rattle.pool_rule.specs.Trades.{Trades, SameHolds}
+use Rattle.pool_rule.specs.Trades.{SameHolds}
 use Rattle.pool_rule.specs.Views.{View}
 use Rattle.pool_rule.proofs.Gains.{gained-same, gained-then}
 use Rattle.pool_rule.proofs.Trades.{trade, Trades-same}

@@ -1,22 +1,22 @@
 -- The plain step where no tree is sampled: what is done, and what is refused.
-use Rattle.std.proofs.Common.{◌≡◌, ◌∙◌, sym, ap, subst, refl, ℕ, ◌+◌, ◌<◌, ◌≤◌, List, length, Option, Some, None, Bool, true, false, cond, arith}
-use Rattle.std.specs.Prelude.{option_map, is_some, not, ◌&&◌, ◌%◌, nat_lt, nat_eq, if◌then◌else◌, IsTrue, IsSome}
+use Rattle.std.proofs.Common.{◌≡◌, ◌∙◌, sym, ap, subst, refl, ℕ, ◌+◌, ◌≤◌, List, Option, Some, None, Bool, true, false}
+use Rattle.std.specs.Prelude.{option_map, is_some, ◌&&◌, ◌%◌, nat_lt, nat_eq, if◌then◌else◌, IsTrue}
 use Rattle.plain_cord.specs.declared.script.Command.{Command}
 use Rattle.plain_cord.specs.declared.reply.Reply.{Reply}
 use Rattle.plain_cord.specs.declared.reply.Reply.TheVariants as replies
 use Rattle.plain_cord.specs.declared.reply.NewMark.TheVariants as marks
 use Rattle.plain_cord.specs.States.{CordState}
 use Rattle.plain_cord.specs.Outcomes.{Outcome, outcome}
-use Rattle.tree_shapes.specs.Cords.{CordShape, sum_of, NeedsHeight12}
-use Rattle.cord_steps.specs.Answers.{Request, Plain, Answer, Told, Height, Cords, Pool}
+use Rattle.tree_shapes.specs.Cords.{sum_of, NeedsHeight12}
+use Rattle.cord_steps.specs.Answers.{Plain, Answer, Told, Height, Cords, Pool}
 use Rattle.cord_steps.specs.Boarding.{left}
-use Rattle.cord_steps.specs.Cords.{Cord, Note, Names, IsCord, plain_names, naming, shape_of, shape_in, note_in, stamp_in}
+use Rattle.cord_steps.specs.Cords.{Cord, Note, IsCord, plain_names, naming, note_in}
 use Rattle.cord_steps.specs.Doings.{Manner, Fresh, Copied, Changed, Doing, doing}
-use Rattle.cord_steps.specs.Marks.{is_tree, was_tree, is_new, new_step, needs_pass, needs_numbers, is_turn, is_sampled, sampled_step, kept_note, kept_step, gone_stamp, gone_step, mark_of, told_note, IsMark}
-use Rattle.cord_steps.specs.Sessions.{Options, Session, Cells, Effect}
-use Rattle.cord_steps.specs.Steps.{cord_with, after_done, after_doing, command_effect, IsDoneReply, IsDoneAnswer, IsByteAnswer, IsCommandAnswer, IsAnswer, IsStep}
+use Rattle.cord_steps.specs.Marks.{is_tree, is_new, needs_pass, needs_numbers, is_turn, sampled_step, kept_note, kept_step, gone_stamp, gone_step, mark_of, told_note, IsMark}
+use Rattle.cord_steps.specs.Sessions.{Options, Session, Cells}
+use Rattle.cord_steps.specs.Steps.{cord_with, after_doing, command_effect, IsDoneReply, IsDoneAnswer, IsByteAnswer, IsCommandAnswer, IsStep}
 use Rattle.cord_steps.specs.Whole.{IsWithin}
-use Rattle.cord_steps.proofs.WholeLaws.{Made, Makes, WhenDone, IsMade, makes}
+use Rattle.cord_steps.proofs.WholeLaws.{Made, WhenDone, IsMade, makes}
 
 -- a fresh cord, a copy of one without a record, or a change
 abbrev pub IsBare : Manner → Type 0

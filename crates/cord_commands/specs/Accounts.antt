@@ -24,8 +24,8 @@ abbrev pub trees_made : Result CordView CordError → ℕ
 trees_made (Ok c) = trees_of c
 trees_made (Err x) = 0
 
--- The worker holds what it held, and its lists only grew, but for the releaser slots, which stay. Passes that it made and trees that there were are passes that it ended and trees that
--- there are.
+-- The worker holds what it held, and its lists only grew, but for the releaser slots, which stay. Passes that it made and trees that
+-- there were are passes that it ended and trees that there are.
 pub record IsSteady (v w : View) (before after : ℕ) : Type 0 where
   pub holds : SameHolds v.holds w.holds
   pub grew : HasGained v w

@@ -1,5 +1,5 @@
 -- What a command on names did: the plain step over trees of a session that has these names, and what its answer shows.
-use Rattle.std.specs.Prelude.{ℕ, ◌≡◌, ◌+◌, ◌≤◌, List, [], length, Some}
+use Rattle.std.specs.Prelude.{ℕ, ◌≡◌, ◌+◌, List, [], length, Some}
 use Rattle.pool_rule.specs.Gains.{SawAll}
 use Rattle.pool_rule.specs.Views.{View}
 use Rattle.ordered_names.specs.declared.names.Names.{Names}

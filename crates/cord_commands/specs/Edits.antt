@@ -22,7 +22,8 @@ use Rattle.cord_commands.specs.declared.edits.Edit.TheVariants.{Add, Double, Cut
 
 -- its bytes and its shape
 abbrev pub IsEdited : Edit → CordView → CordView → Type 0
-IsEdited (Add text side) old new = (new.bytes ≡ beside side old.bytes (text_bytes text.now)) × IsBytesAdded side (length (text_bytes text.now)) (cord_shape old) (cord_shape new)
+IsEdited (Add text side) old new =
+    (new.bytes ≡ beside side old.bytes (text_bytes text.now)) × IsBytesAdded side (length (text_bytes text.now)) (cord_shape old) (cord_shape new)
 IsEdited (Double side) old new = (new.bytes ≡ old.bytes ++ old.bytes) × IsDoubled (cord_shape old) (cord_shape new)
 IsEdited (CutFront n) old new = (new.bytes ≡ drop n old.bytes) × (cord_shape new ≡ front_cut n (cord_shape old)) × (n ≤ length old.bytes)
 IsEdited (CutBack n) old new = (new.bytes ≡ take (length old.bytes - n) old.bytes) × IsBackCut n (cord_shape old) (cord_shape new) × (n ≤ length old.bytes)

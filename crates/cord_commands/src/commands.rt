@@ -35,6 +35,8 @@ pub fn run_command<'a, P: Naming, B: Releaser>(
 {
     match command {
         Command::Let { a, text } => set_text(alloc, pool, w, names, a.as_slice(), text),
+        // Externals aren't made yet.
+        Command::Ext { .. } => Err(AllocError),
         Command::Copy { a, b } => copy(alloc, pool, w, names, a.as_slice(), b.as_slice()),
         Command::Sub { a, pos, n, b } => {
             sub(alloc, pool, w, names, a.as_slice(), *pos, *n, b.as_slice())

@@ -18,6 +18,7 @@ length-repeated piece (suc n) = length-append piece (repeated piece n) ∙ (ap (
 
 pub within-steps : (command : Command) → IsWithin command → steps.IsWithin (Plain command)
 within-steps (commands.Let a text) within = let long = length-repeated text.piece text.times in omega (arith, long, within.1)
+within-steps (commands.Ext a text) within = let long = length-repeated text.piece text.times in (omega (arith, long, within.0), omega (arith, long, within.1))
 within-steps _ within = tt
 
 pub apart : (command : Command) → ((a : List ℕ) (cell : ℕ) → command ≡ commands.Put a cell → ⊥) → ((cell : ℕ) (a : List ℕ) → command ≡ commands.Take cell a → ⊥)

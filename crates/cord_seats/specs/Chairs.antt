@@ -34,7 +34,8 @@ pub record Starts {g : _} (b : Board CordView) (said : List Command) (p : ℕ) (
   pub new : IsNew w
 
 -- and after them: passes made and trees got are passes ended and trees handed in
-pub record Ends {g : _} (b : Board CordView) (said : List Command) (p : ℕ) (seat : BoardPass CordView g) (w : View) (answers : Option (Vec Answer)) : Type 0 where
+pub record Ends {g : _} (b : Board CordView) (said : List Command) (p : ℕ) (seat : BoardPass CordView g) (w : View) (answers : Option (Vec Answer))
+    : Type 0 where
   pub on : IsOn b seat
   pub session : IsSession (board_view seat)
   pub number : session_of (board_view seat) ≡ p

@@ -84,7 +84,8 @@ pub fn seat_all<P: Naming>(
     ensures len { length result.items ≡ length sessions.now }
     ensures board { IsOn board.now root.new }
     ensures root { Seated (board_view root.new) sessions.now (length sessions.now) }
-    ensures starts { (p : ℕ) (s : Session_value) (c : _) → p < length sessions.now → StartsIn board.now (slice_index_or sessions.now p s).commands p (slice_index_or result.items p c) }
+    ensures starts { (p : ℕ) (s : Session_value) (c : _) → p < length sessions.now
+        → StartsIn board.now (slice_index_or sessions.now p s).commands p (slice_index_or result.items p c) }
 {
     let mut chairs = room;
     for worker in workers {
@@ -109,15 +110,19 @@ pub fn gather<P: Naming>(
     room: Gathered<P>,
 ) -> Gathered<P>
     requires len { length chairs.items ≡ length sessions.now }
-    requires room { (room.workers.items ≡ []) × (room.answers.items ≡ []) × (length sessions.now ≤ vec_capacity room.answers) × (length sessions.now < vec_capacity room.workers) }
+    requires room { (room.workers.items ≡ []) × (room.answers.items ≡ []) × (length sessions.now ≤ vec_capacity room.answers)
+        × (length sessions.now < vec_capacity room.workers) }
     requires board { IsOn board.now root.old }
     requires root { Seated (board_view root.old) sessions.now (length sessions.now) }
-    requires ends { (p : ℕ) (s : Session_value) (c : _) → p < length sessions.now → EndsIn board.now (slice_index_or sessions.now p s).commands p (slice_index_or chairs.items p c) }
+    requires ends { (p : ℕ) (s : Session_value) (c : _) → p < length sessions.now
+        → EndsIn board.now (slice_index_or sessions.now p s).commands p (slice_index_or chairs.items p c) }
     ensures len { length result.workers.items ≡ length sessions.now }
     ensures room { length result.workers.items < vec_capacity result.workers }
     ensures board { IsOn board.now root.new }
     ensures root { Joined (board_view root.new) (length sessions.now) (length sessions.now) }
-    ensures answers { (length result.answers.items ≡ length sessions.now) × ((p : ℕ) (s : Session_value) (a : _) → p < length sessions.now → IfSome (slice_index_or result.answers.items p a) (λ rs. IsToldAlone p (slice_index_or sessions.now p s).commands rs.items (mine_in (joined_of (board_view root.new)) p))) }
+    ensures answers { (length result.answers.items ≡ length sessions.now) × ((p : ℕ) (s : Session_value) (a : _) → p < length sessions.now
+        → IfSome (slice_index_or result.answers.items p a)
+        (λ rs. IsToldAlone p (slice_index_or sessions.now p s).commands rs.items (mine_in (joined_of (board_view root.new)) p))) }
     ensures back { (p : ℕ) (w : View) → p < length sessions.now → Came (joined_of (board_view root.new)) p (slice_index_or result.workers.items p w) }
 {
     let Gathered {

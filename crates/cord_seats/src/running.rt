@@ -58,7 +58,8 @@ fn reserve<P: Naming>(alloc: Global, sessions: &[Session]) -> Result<Places<P>, 
     requires few { length sessions.now ≤ 16 }
     requires short { entries_for_sessions sessions.now ≤ 16384 }
     ensures chairs { IfOk result (λ r. (r.chairs.items ≡ []) × (length sessions.now ≤ vec_capacity r.chairs)) }
-    ensures gathered { IfOk result (λ r. (r.gathered.workers.items ≡ []) × (r.gathered.answers.items ≡ []) × (length sessions.now ≤ vec_capacity r.gathered.answers) × (length sessions.now < vec_capacity r.gathered.workers)) }
+    ensures gathered { IfOk result (λ r. (r.gathered.workers.items ≡ []) × (r.gathered.answers.items ≡ [])
+        × (length sessions.now ≤ vec_capacity r.gathered.answers) × (length sessions.now < vec_capacity r.gathered.workers)) }
     ensures all { IfOk result (λ r. (r.all.items ≡ []) × (length sessions.now ≤ vec_capacity r.all)) }
     ensures board { IfOk result (λ r. IsOn r.board r.root) }
     ensures root { IfOk result (λ r. Seated (board_view r.root) sessions.now 0) }
@@ -89,8 +90,10 @@ fn run_all<R: Threads + Wait + Sync, P: Naming + Send + Sync, B: Releaser + Send
 )
     requires len { length chairs.old ≡ length sessions.now }
     requires runnable { (p : ℕ) (s : Session_value) → p < length sessions.now → All IsWithin (slice_index_or sessions.now p s).commands }
-    requires starts { (p : ℕ) (s : Session_value) (c : _) → p < length sessions.now → StartsIn board.now (slice_index_or sessions.now p s).commands p (slice_index_or chairs.old p c) }
-    ensures { (p : ℕ) (s : Session_value) (c : _) → p < length sessions.now → EndsIn board.now (slice_index_or sessions.now p s).commands p (slice_index_or chairs.new p c) }
+    requires starts { (p : ℕ) (s : Session_value) (c : _) → p < length sessions.now
+        → StartsIn board.now (slice_index_or sessions.now p s).commands p (slice_index_or chairs.old p c) }
+    ensures { (p : ℕ) (s : Session_value) (c : _) → p < length sessions.now
+        → EndsIn board.now (slice_index_or sessions.now p s).commands p (slice_index_or chairs.new p c) }
 {
     let count = chairs.len();
     if count == 0 {

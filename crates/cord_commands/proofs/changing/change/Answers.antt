@@ -1,5 +1,5 @@
 -- The name was never set; and after a refusal it has the cord that it had.
-use Rattle.std.proofs.Common.{rules, ◌≡◌, ◌∙◌, sym, ap, subst, refl, ℕ, ◌+◌, arith}
+use Rattle.std.proofs.Common.{◌≡◌, sym, subst, refl, arith}
 use Rattle.std.specs.Prelude.{OnErr}
 use Rattle.cord_value.specs.Views.{no_cord}
 use Rattle.cord_commands.proofs.Steady.{stay-steady, steady-shift, steady-unused}

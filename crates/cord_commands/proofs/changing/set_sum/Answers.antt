@@ -1,6 +1,6 @@
 -- Nothing is done to a name that was never set, and to an empty cord.
-use Rattle.std.proofs.Common.{rules, ◌≡◌, ◌∙◌, sym, ap, subst, refl, ℕ, ◌+◌, arith}
-use Rattle.cord_commands.proofs.Steady.{same-steady, stay-steady}
+use Rattle.std.proofs.Common.{refl}
+use Rattle.cord_commands.proofs.Steady.{same-steady}
 use Rattle.cord_commands.proofs.changing.set_sum.Goals as goal
 
 pub returns-in-None-clause-steady : goal.returns-in-None-clause-steady

@@ -1,6 +1,6 @@
 -- A question changes nothing.
-use Rattle.std.proofs.Common.{rules, ◌≡◌, ◌∙◌, sym, ap, subst, refl, ℕ, ◌+◌, arith}
-use Rattle.cord_commands.proofs.Steady.{same-steady, stay-steady}
+use Rattle.std.proofs.Common.{refl}
+use Rattle.cord_commands.proofs.Steady.{same-steady}
 use Rattle.cord_commands.proofs.commands.run_command.Goals as goal
 
 pub returns-in-Size-clause-steady : goal.returns-in-Size-clause-steady
@@ -26,3 +26,6 @@ returns-in-Starts-clause-steady g c = same-steady _ _ _ refl
 
 pub returns-in-Ends-clause-steady : goal.returns-in-Ends-clause-steady
 returns-in-Ends-clause-steady g c = same-steady _ _ _ refl
+
+pub returns-in-Ext-clause-steady : goal.returns-in-Ext-clause-steady
+returns-in-Ext-clause-steady g c = same-steady _ _ _ refl

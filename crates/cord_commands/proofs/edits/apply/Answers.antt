@@ -1,6 +1,4 @@
 -- Each edit keeps the passes even.
-use Rattle.std.proofs.Common.{◌≡◌, ◌∙◌, sym, ap, subst, refl, length, Result, Ok, Err}
-use Rattle.std.specs.Prelude.{IfOk}
 use Rattle.cord_commands.proofs.Steady.{changed-steady}
 use Rattle.cord_commands.proofs.edits.apply.Goals as goal
 

@@ -1,5 +1,5 @@
 -- A name that was never set; and after a refusal both names have the cords that they had.
-use Rattle.std.proofs.Common.{rules, ◌≡◌, ◌∙◌, sym, ap, subst, refl, ℕ, ◌+◌, arith}
+use Rattle.std.proofs.Common.{◌≡◌, sym, ap, subst, refl, arith}
 use Rattle.std.specs.Prelude.{OnErr}
 use Rattle.cord_commands.specs.Accounts.{trees_of}
 use Rattle.cord_commands.proofs.Steady.{stay-steady, steady-shift}

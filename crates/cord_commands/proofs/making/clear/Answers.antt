@@ -1,5 +1,5 @@
 -- The name was never set.
-use Rattle.std.proofs.Common.{rules, ◌≡◌, ◌∙◌, sym, ap, subst, refl, ℕ, ◌+◌, [], Some, true, arith}
+use Rattle.std.proofs.Common.{◌≡◌, sym, subst, refl, [], Some, true, arith}
 use Rattle.plain_cord.specs.declared.script.Command.TheVariants as commands
 use Rattle.ordered_names.specs.Named.{named}
 use Rattle.cord_value.specs.Views.{no_cord}

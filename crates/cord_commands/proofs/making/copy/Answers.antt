@@ -1,5 +1,5 @@
 -- A copy is made while the cord is out, and takes its place.
-use Rattle.std.proofs.Common.{rules, ◌≡◌, ◌∙◌, sym, ap, subst, refl, ℕ, ◌+◌, Some, true, arith}
+use Rattle.std.proofs.Common.{◌≡◌, ◌∙◌, sym, ap, subst, refl, Some, true, arith}
 use Rattle.plain_cord.specs.declared.script.Command.TheVariants as commands
 use Rattle.tree_shapes.specs.Cords.{CordShape}
 use Rattle.ordered_names.specs.Named.{named}

@@ -1,5 +1,5 @@
 -- A refused cord changes nothing.
-use Rattle.std.proofs.Common.{rules, ◌≡◌, ◌∙◌, sym, ap, subst, refl, ℕ, ◌+◌, [], sum_by, arith}
+use Rattle.std.proofs.Common.{ap, refl, [], sum_by, arith}
 use Rattle.cord_commands.specs.Accounts.{trees_of, trees_made}
 use Rattle.cord_commands.proofs.Steady.{stay-steady, steady-shift, keeps-steady}
 use Rattle.cord_commands.proofs.making.set_made.Goals as goal

@@ -1,5 +1,5 @@
 -- A part is made while the cord is out, and takes its place.
-use Rattle.std.proofs.Common.{rules, ◌≡◌, ◌∙◌, sym, ap, subst, refl, ℕ, ◌+◌, arith}
+use Rattle.std.proofs.Common.{ap, refl, arith}
 use Rattle.cord_commands.specs.Accounts.{trees_of}
 use Rattle.cord_commands.proofs.Steady.{steady-as, stay-steady, part-steady, made-then}
 use Rattle.cord_commands.proofs.making.sub.Goals as goal

@@ -1,5 +1,5 @@
 -- One chunk more, or a beginning of it.
-use Rattle.std.proofs.Common.{◌≡◌, ◌∙◌, sym, ap, subst, refl, ℕ, ◌+◌, ◌-◌, ◌≤◌, List, ◌++◌, length, take, length-append, length-take, arith}
+use Rattle.std.proofs.Common.{◌≡◌, ◌∙◌, sym, ap, ℕ, ◌+◌, ◌-◌, ◌≤◌, List, ◌++◌, length, take, length-append, length-take, arith}
 use Rattle.std.proofs.Math.Seq.{take-add}
 use Rattle.chunk_reader.specs.Readings.{Reading}
 use Rattle.cord_commands.proofs.printing.first_bytes.Goals as goal

@@ -1,5 +1,5 @@
 -- A piece that is repeated.
-use Rattle.std.proofs.Common.{rules, ◌≡◌, ◌∙◌, sym, ap, subst, refl, ℕ, ◌+◌, arith}
+use Rattle.std.proofs.Common.{◌∙◌, ap}
 use Rattle.plain_cord.specs.Texts.{repeated}
 use Rattle.cord_commands.proofs.Spelling.{same-zip, repeat-is}
 use Rattle.cord_commands.proofs.texts.TextBytes.of_text.Goals as goal
