@@ -325,6 +325,7 @@ fn ranges_cuts_joins_and_sums_leave_what_they_say(rt: HostRuntime) {
             ],
         ),
     ] {
+        assert!(&rt; 0 < numbers && numbers <= 8, "the pool's size");
         let Ok(opened) = Opened::start(alloc, numbers, 2, 1, Vec::new(alloc)) else {
             assert!(&rt; false, "memory");
             return;
