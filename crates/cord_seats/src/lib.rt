@@ -8,8 +8,6 @@ mod chairs;
 mod peeking;
 mod running;
 mod session;
-#[cfg(test)]
-mod tests;
 
 pub use board_cord::{BoardCord, Peeker};
 pub use boarding::{put, swap, take};
