@@ -15,9 +15,9 @@ use Rattle.cord_commands.specs.Answers.{told_by}
 use Rattle.cord_commands.specs.Bare.{StepsTo}
 use Rattle.cord_commands.specs.Views.{names_of}
 
--- nothing walks over records here
+-- nothing walks over records here, so no walk tells of any
 abbrev pub NoReport : Type 0
-NoReport = ⊥
+NoReport = Unit {0}
 
 -- the options of a run in which no tree is sampled
 pub record AreFor (options : Options) (size limit : ℕ) : Type 0 where

@@ -17,7 +17,7 @@ use Rattle.cord_steps.specs.Sessions.{Options, Session, Cells, Effect}
 use Rattle.cord_steps.specs.Steps.{IsStep}
 use Rattle.cord_runs.specs.Orders.{run_order}
 use Rattle.cord_runs.specs.Runs.{acts, lines_at, IsRun}
-use Rattle.cord_runs.specs.Scripts.{options_of, requests_of, answers_in, IsTreeRun}
+use Rattle.cord_runs.specs.Scripts.{options_of, requests_of, boxes_of, answers_in, IsTreeRun}
 use Rattle.cord_runs.proofs.OrderLaws.{Tagged, of-book, of-contained}
 
 abbrev pub AllTell : Type 0 → Type 0
@@ -87,20 +87,19 @@ module _ {R : Type 0} where
   pub in-answers : (books : List Book) (p : ℕ) (reply : Reply) → Contains (slice_index_or (replies_of books) p []) reply → Contains (slice_index_or (answers_in {Report = R} books) p []) (answer_of reply)
   in-answers books p reply contains = subst (λ (rs : List (Answer R)). Contains rs (answer_of reply)) (sym (at-book books p)) (in-map answer_of (slice_index_or (replies_of books) p []) reply contains)
 
-pub told-run : AllTell (Unit {0}) → (script : Script) (boxes : ℕ → ℕ) (books : List Book) (answers : List (List (Answer (Unit {0})))) (history : List Entry) → IsRun (options_of script) boxes (requests_of script) answers history
-    → map (λ rs. map reply_of rs) answers ≡ map (λ book. map (λ reply. Some reply) book.replies) books → IsTreeRun script books history
+pub told-run : AllTell (Unit {0}) → (script : Script) (boxes : ℕ) (books : List Book) (answers : List (List (Answer (Unit {0})))) (history : List Entry) → IsRun (options_of script) (boxes_of boxes) (requests_of script) answers history
+    → map (λ rs. map reply_of rs) answers ≡ map (λ book. map (λ reply. Some reply) book.replies) books → IsTreeRun script boxes books history
 told-run tell script boxes books answers history run same = record {
-  boxes = boxes;
-  run = subst (λ (rs : List (List (Answer (Unit {0})))). IsRun (options_of script) boxes (requests_of script) rs history)
-      (books-told answers books (book-tells tell (options_of script) boxes (requests_of script) answers history run) same) run;
+  run = subst (λ (rs : List (List (Answer (Unit {0})))). IsRun (options_of script) (boxes_of boxes) (requests_of script) rs history)
+      (books-told answers books (book-tells tell (options_of script) (boxes_of boxes) (requests_of script) answers history run) same) run;
 }
 
 abbrev pub AllCaused : Type 0 → Type 0
 AllCaused R = (options : Options) (boxes : ℕ → ℕ) (sessions : List (List Request)) (books : List (List (Answer R))) (history : List Entry) (p : ℕ) (answer : Answer R) → IsRun options boxes sessions books history → Contains (slice_index_or books p []) answer → ShowsCause options answer
 
-module _ (caused : AllCaused (Unit {0})) (script : Script) (books : List Book) (history : List Entry) (p n : ℕ) (ran : IsTreeRun script books history) where
+module _ (caused : AllCaused (Unit {0})) (script : Script) (boxes : ℕ) (books : List Book) (history : List Entry) (p n : ℕ) (ran : IsTreeRun script boxes books history) where
   pub cords-caused : Contains (slice_index_or (replies_of books) p []) (replies.Cords n) → script.passes ≤ n
-  cords-caused contains = caused (options_of script) ran.boxes (requests_of script) (answers_in books) history p (Cords n) ran.run (in-answers books p (replies.Cords n) contains)
+  cords-caused contains = caused (options_of script) (boxes_of boxes) (requests_of script) (answers_in books) history p (Cords n) ran.run (in-answers books p (replies.Cords n) contains)
 
   pub pool-caused : Contains (slice_index_or (replies_of books) p []) (replies.Pool n) → n ≡ script.pool
-  pool-caused contains = caused (options_of script) ran.boxes (requests_of script) (answers_in books) history p (Pool n) ran.run (in-answers books p (replies.Pool n) contains)
+  pool-caused contains = caused (options_of script) (boxes_of boxes) (requests_of script) (answers_in books) history p (Pool n) ran.run (in-answers books p (replies.Pool n) contains)

@@ -5,4 +5,5 @@ pub mod Runs
 pub mod Alone
 pub mod Kept
 pub mod Scripts
+pub mod Boxes
 pub mod Samples

@@ -12,7 +12,7 @@ ghost use Rattle.cord_steps.specs.Replies.{answer_of, reply_of};
 ghost use Rattle.cord_steps.specs.Sessions.{Options};
 ghost use Rattle.cord_runs.specs.Kept.{kept_sessions, kept_books};
 ghost use Rattle.cord_runs.specs.Runs.{IsRun};
-ghost use Rattle.cord_runs.specs.Scripts.{options_of, requests_of, answers_in, IsTreeRun};
+ghost use Rattle.cord_runs.specs.Scripts.{options_of, requests_of, boxes_of, answers_in, IsTreeRun};
 
 use crate::laws::{refusals_in_runs_show_their_cause, runs_are_plain_runs};
 use cord_steps::replies_tell_answers;
@@ -29,10 +29,10 @@ pub fn answers_in_runs_are_told_by_their_replies<R>()
 /// A run over trees of a script's requests, with its options, is a run of the script: the replies by which its answers are told are
 /// the books.
 pub fn told_runs_are_tree_runs()
-    ensures { (script : Script_value) (boxes : ℕ → ℕ) (books : List Book_value) (answers : List (List (Answer (Unit {0})))) (history : List Entry_value)
-        → IsRun (options_of script) boxes (requests_of script) answers history
+    ensures { (script : Script_value) (boxes : ℕ) (books : List Book_value) (answers : List (List (Answer (Unit {0})))) (history : List Entry_value)
+        → IsRun (options_of script) (boxes_of boxes) (requests_of script) answers history
         → map (λ rs. map reply_of rs) answers ≡ map (λ book. map (λ reply. Some reply) book.replies) books
-        → IsTreeRun script books history }
+        → IsTreeRun script boxes books history }
 {
     replies_tell_answers::<()>();
 }
@@ -40,7 +40,7 @@ pub fn told_runs_are_tree_runs()
 /// Without the commands that were refused for want of a height, a pass, a number or a box, and without marks, a run of a script over trees
 /// is a run on byte strings with the same history.
 pub fn tree_runs_are_plain_runs()
-    ensures { (script : Script_value) (books : List Book_value) (history : List Entry_value) → IsTreeRun script books history
+    ensures { (script : Script_value) (boxes : ℕ) (books : List Book_value) (history : List Entry_value) → IsTreeRun script boxes books history
         → IsPlainRun (kept_sessions {Report = Unit {0}} (requests_of script) (answers_in books))
         (kept_books {Report = Unit {0}} (requests_of script) (answers_in books)) history }
 {
@@ -50,10 +50,10 @@ pub fn tree_runs_are_plain_runs()
 /// In each book of a script's run over trees a refusal for want of a pass tells at least as many live passes as the script allows, and one
 /// for want of a number all that its pool has.
 pub fn refusals_in_tree_runs_show_their_cause()
-    ensures cords { (script : Script_value) (books : List Book_value) (history : List Entry_value) (p : ℕ) (found : ℕ)
-        → IsTreeRun script books history → Contains (slice_index_or (replies_of books) p []) (replies.Cords found) → script.passes ≤ found }
-    ensures pool { (script : Script_value) (books : List Book_value) (history : List Entry_value) (p : ℕ) (size : ℕ)
-        → IsTreeRun script books history → Contains (slice_index_or (replies_of books) p []) (replies.Pool size) → size ≡ script.pool }
+    ensures cords { (script : Script_value) (boxes : ℕ) (books : List Book_value) (history : List Entry_value) (p : ℕ) (found : ℕ)
+        → IsTreeRun script boxes books history → Contains (slice_index_or (replies_of books) p []) (replies.Cords found) → script.passes ≤ found }
+    ensures pool { (script : Script_value) (boxes : ℕ) (books : List Book_value) (history : List Entry_value) (p : ℕ) (size : ℕ)
+        → IsTreeRun script boxes books history → Contains (slice_index_or (replies_of books) p []) (replies.Pool size) → size ≡ script.pool }
 {
     refusals_in_runs_show_their_cause::<()>();
 }

@@ -1,4 +1,5 @@
 -- What is true of sessions on cords.
+pub mod Boxes
 pub mod Chairs
 pub mod Clearings
 pub mod Entries

@@ -120,20 +120,20 @@ books-short (session ∷ sessions) (book ∷ books) same h = (
 )
 
 abbrev pub AllFollow : Type 0
-AllFollow = (script : Script) (books : List Book) (history : List Entry) → IsTreeRun script books history
+AllFollow = (script : Script) (boxes : ℕ) (books : List Book) (history : List Entry) → IsTreeRun script boxes books history
     → IsPlainRun (kept_sessions {Report = Unit {0}} (requests_of script) (answers_in books)) (kept_books {Report = Unit {0}} (requests_of script) (answers_in books)) history
 
 abbrev pub AllPrint : Type 0
 AllPrint = (sessions : List Session) (books : List Book) (history : List Entry) → All HasShortNames sessions → IsPlainRun sessions books history → IsPrintable sessions books history
 
-pub tree-printable : AllFollow → AllPrint → (script : Script) (books : List Book) (history : List Entry) → IsWithinLimits script → IsTreeRun script books history → IsPrintable script.sessions books history
-tree-printable follow print script books history limits ran =
+pub tree-printable : AllFollow → AllPrint → (script : Script) (boxes : ℕ) (books : List Book) (history : List Entry) → IsWithinLimits script → IsTreeRun script boxes books history → IsPrintable script.sessions books history
+tree-printable follow print script boxes books history limits ran =
     let sessions = script.sessions in
     let same = ran.run.answered in
     let short = sessions-short sessions limits.sessions in
     let less = kept_sessions {Report = Unit {0}} (requests_of script) (answers_in books) in
     let some = kept_books {Report = Unit {0}} (requests_of script) (answers_in books) in
-    let kept_run = print less some history (All-from_recursion HasShortNames less (kept-short sessions (answers_in books) (recursion_from_All HasShortNames sessions short))) (follow script books history ran) in
+    let kept_run = print less some history (All-from_recursion HasShortNames less (kept-short sessions (answers_in books) (recursion_from_All HasShortNames sessions short))) (follow script boxes books history ran) in
     record {
       paired = paired sessions books same;
       names = λ k d inside. (short k d inside).name;

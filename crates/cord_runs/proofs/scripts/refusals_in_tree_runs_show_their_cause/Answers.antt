@@ -4,6 +4,6 @@ use Rattle.cord_runs.proofs.scripts.refusals_in_tree_runs_show_their_cause.Goals
 
 pub returns : goal.returns
 returns c = record {
-  cords = λ script books history p found ran. cords-caused c.refusals_in_runs_show_their_cause.ensures script books history p found ran;
-  pool = λ script books history p size ran. pool-caused c.refusals_in_runs_show_their_cause.ensures script books history p size ran;
+  cords = λ script boxes books history p found ran. cords-caused c.refusals_in_runs_show_their_cause.ensures script boxes books history p found ran;
+  pool = λ script boxes books history p size ran. pool-caused c.refusals_in_runs_show_their_cause.ensures script boxes books history p size ran;
 }
