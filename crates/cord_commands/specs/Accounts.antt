@@ -24,8 +24,14 @@ abbrev pub trees_made : Result CordView CordError → ℕ
 trees_made (Ok c) = trees_of c
 trees_made (Err x) = 0
 
--- The worker holds what it held, and its lists only grew, but for the releaser slots, which stay. Passes that it made and trees that
--- there were are passes that it ended and trees that there are.
+-- The worker holds what it held, and its lists only grew. Passes that it made and trees that there were are passes that it ended and trees
+-- that there are.
+pub record AddsUp (v w : View) (before after : ℕ) : Type 0 where
+  pub holds : SameHolds v.holds w.holds
+  pub grew : HasGained v w
+  pub accounts : w.made + (v.ended + before) ≡ v.made + (w.ended + after)
+
+-- the same, and no releaser slot was used
 pub record IsSteady (v w : View) (before after : ℕ) : Type 0 where
   pub holds : SameHolds v.holds w.holds
   pub grew : HasGained v w

@@ -5,5 +5,6 @@ pub mod Answers
 pub mod Texts
 pub mod Edits
 pub mod Asked
+pub mod Slots
 pub mod Bare
 pub mod Does

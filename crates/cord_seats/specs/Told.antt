@@ -2,7 +2,6 @@
 use Rattle.std.specs.Prelude.{◌≡◌, ℕ, List, [], ◌∷◌, ◌++◌, length, map, zip}
 use Rattle.plain_cord.specs.declared.deed.Deed.{Deed}
 use Rattle.plain_cord.specs.Deeds.{mapped_deed}
-use Rattle.plain_cord.specs.declared.reply.Reply.{Reply}
 use Rattle.plain_cord.specs.declared.script.Command.{Command}
 use Rattle.plain_cord.specs.declared.script.Session.{Session}
 use Rattle.cord_value.specs.Views.{CordView}
@@ -11,11 +10,10 @@ use Rattle.cord_steps.specs.Runs.{new_session}
 use Rattle.cord_steps.specs.Sessions as steps
 use Rattle.cord_steps.specs.Sessions.{Options}
 use Rattle.cord_runs.specs.Alone.{RunsAlone}
-use Rattle.cord_runs.specs.Boxes.{external_of}
 use Rattle.cord_commands.specs.declared.answer.Answer.{Answer}
-use Rattle.cord_commands.specs.declared.answer.Answer.TheVariants.{Told}
 use Rattle.cord_commands.specs.Answers.{told_by}
 use Rattle.cord_commands.specs.Does.{NoReport}
+use Rattle.cord_commands.specs.Slots.{external_by}
 use Rattle.cord_commands.specs.Views.{cord_in}
 
 -- the options of a run over a pool of so many numbers and at most so many passes, in which no tree is sampled
@@ -34,12 +32,7 @@ pub record IsToldAlone (size limit boxes p : ℕ) (said : List Command) (answers
 abbrev pub AreAnswered : List Session → List (List Answer) → Type 0
 AreAnswered sessions answers = map length answers ≡ map (λ session. length session.commands) sessions
 
--- the length of the external that a command made, by its answer
-abbrev pub external_by : Command → Answer → List ℕ
-external_by command (Told reply) = external_of command reply
-external_by command answer = []
-
--- of all commands of a session
+-- the lengths of the externals that the commands of a session made, by their answers
 abbrev pub externals_by : List Command → List Answer → List ℕ
 externals_by [] answers = []
 externals_by (command ∷ said) [] = []
