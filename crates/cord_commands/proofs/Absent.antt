@@ -1,10 +1,11 @@
 -- Names that were never set, and names that are set from others that are the same.
-use Rattle.std.proofs.Common.{◌≡◌, sym, subst, refl, ℕ, List, Some, None, false, Result, Ok, Err}
+use Rattle.std.proofs.Common.{◌≡◌, sym, subst, refl, ℕ, List, length, Some, None, false, Result, Ok, Err}
 use Rattle.std.specs.Prelude.{IfOk}
 use Rattle.std.specs.declared.alloc.AllocError.{AllocError}
 use Rattle.node_forest.specs.declared.side.Side.TheVariants.{Front, Back}
 use Rattle.plain_cord.specs.declared.reply.Reply.TheVariants as replies
 use Rattle.plain_cord.specs.declared.script.Command.{Command}
+use Rattle.plain_cord.specs.declared.script.Command.TheVariants as commands
 use Rattle.plain_cord.specs.States.{CordState}
 use Rattle.plain_cord.specs.Outcomes.{Outcome, outcome, with_cord}
 use Rattle.pool_rule.specs.Views.{View}
@@ -21,9 +22,9 @@ use Rattle.cord_commands.specs.declared.edits.Edit.TheVariants.{Add, Double, Cut
 use Rattle.cord_commands.specs.Answers.{IsSet}
 use Rattle.cord_commands.specs.Does.{Does}
 use Rattle.cord_commands.specs.Edits.{command_of}
-use Rattle.cord_commands.specs.Views.{names_of, AreSame}
-use Rattle.cord_commands.proofs.Comings.{Answers, unset-answers}
-use Rattle.cord_commands.proofs.Doing.{does-told, none-in}
+use Rattle.cord_commands.specs.Views.{cord_in, names_of, AreSame}
+use Rattle.cord_commands.proofs.Comings.{Answers, unset-answers, sum-empty}
+use Rattle.cord_commands.proofs.Doing.{are-bare, does-told, found-in, none-in}
 use Rattle.cord_commands.proofs.Renaming.{same-then, same-set}
 
 pub told-does : (size limit : ℕ) (old new : Names CordView) (w : View) (command : Command) (a : List ℕ) → Answers (names_of old) command (replies.Unset a) → AreSame old new → (res : Result Answer AllocError)
@@ -47,6 +48,12 @@ edit-answers old a (SetSum value) none = unset-answers (names_of old) _ a _ refl
 pub edit-unset : (size limit : ℕ) (old new : Names CordView) (w : View) (a : List ℕ) (by : Edit) → named old a ≡ None → AreSame old new → (res : Result Answer AllocError)
     → IfOk res (λ answer. answer ≡ Told (replies.Unset a)) → IfOk res (λ answer. Does size limit old new w w (Plain (command_of a by)) answer)
 edit-unset size limit old new w a by none same res told = told-does size limit old new w (command_of a by) a (edit-answers old a by none) same res told
+
+-- no sum is set on an empty cord
+pub no-bytes-does : (size limit : ℕ) (old : Names CordView) (w : View) (a : List ℕ) (value : ℕ) (c : CordView) → named old a ≡ Some c → length c.bytes ≡ 0 → (answer : Answer) → answer ≡ Told replies.NoBytes
+    → Does size limit old old w w (Plain (commands.SetSum a value)) answer
+no-bytes-does size limit old w a value c is none answer told = subst (Does size limit old old w w (Plain (commands.SetSum a value))) (sym told)
+    (does-told size limit old old w w (commands.SetSum a value) false replies.NoBytes (λ whole. sum-empty false (names_of old) (are-bare old whole) a value (cord_in c) (found-in old a c is) none) tt (λ q. refl) refl)
 
 pub set-from : (old mid new : Names CordView) (a : List ℕ) (r : Result CordView CordError) (answer : Answer) → AreSame old mid → IsSet mid new a r answer → IsSet old new a r answer
 set-from old mid new a (Ok c) answer same set = (same-set old mid new a c same set.0, set.1)

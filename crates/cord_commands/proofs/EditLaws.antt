@@ -1,6 +1,6 @@
 -- Each edit of a name's cord, done or refused, as its command's plain step over trees.
-use Rattle.std.proofs.Common.{◌≡◌, ◌≢◌, ◌∙◌, sym, ap, subst, refl, ℕ, zero, suc, ◌+◌, ◌-◌, ◌<◌, ◌≤◌, List, [], ◌∷◌, ◌++◌, length, take, drop, Some, Bool, true, false, ne_eqb, Result, Ok, Err, inl, inr, arith}
-use Rattle.std.specs.Prelude.{not, nat_eq, nat_le, IfOk, IfErr, OnErr}
+use Rattle.std.proofs.Common.{◌≡◌, ◌∙◌, sym, ap, subst, refl, ℕ, zero, suc, ◌+◌, ◌-◌, ◌<◌, ◌≤◌, List, [], ◌∷◌, ◌++◌, length, take, drop, Some, Bool, true, false, ne_eqb, Result, Ok, Err, inl, inr, arith}
+use Rattle.std.specs.Prelude.{nat_eq, nat_le, IfOk, IfErr, OnErr}
 use Rattle.std.specs.Str.{bytes_eq}
 use Rattle.std.specs.declared.alloc.AllocError.{AllocError}
 use Rattle.std.proofs.lemmas.List.{length-take, length-drop}
@@ -40,8 +40,7 @@ use Rattle.cord_commands.specs.Edits.{IsEdited, IsEditRefused, IsTextRefused, Is
 use Rattle.cord_commands.specs.Views.{cord_in, names_of, AreSame, IsSetTo}
 use Rattle.cord_commands.proofs.Comings.{ComesTo, add-comes, add-long, join-comes, join-long, cut_front-comes, cut_front-beyond, cut_back-comes, cut_back-beyond, sum-comes}
 use Rattle.cord_commands.proofs.Doing.{does-told, some-answer, are-bare, found-in}
-use Rattle.cord_commands.proofs.Edited.{changes, alters_to, changed-bytes, beside-same, beside-length, set-by, refused-by}
-use Rattle.cord_commands.proofs.Refused.{copied-shape}
+use Rattle.cord_commands.proofs.Edited.{changes, alters_to, alters, changed-bytes, beside-same, beside-length, set-by, refused-by}
 use Rattle.cord_commands.proofs.Renaming.{set-same}
 
 -- ---- sizes of what is made
@@ -54,13 +53,13 @@ front-size n s some = ap (λ (z : CordShape). z.size) (if_false (nat_eq n 0) s _
 back-size : (shortens : Bool) (n : ℕ) (s : CordShape) → 0 < n → (back_cut shortens n s).size ≡ s.size - n
 back-size shortens n s some = ap (λ (z : CordShape). z.size) (if_false (nat_eq n 0) s _ (ne_eqb n 0 (λ e. omega (arith, e))))
 
--- a cord that isn't empty, added to itself
-doubled-size : (fills : Bool) (s : CordShape) → 0 < s.size → (doubled fills s).size ≡ s.size + s.size
-doubled-size fills s some = go (nat_le s.size 511) refl
+-- a cord that isn't empty, added to another
+pub joined-size : (fills : Bool) (side : Side) (source s : CordShape) → 0 < source.size → (with_cord_added fills side source s).size ≡ s.size + source.size
+joined-size fills side source s some = go (nat_le source.size 511) refl
   where
-    go : (b : Bool) → nat_le s.size 511 ≡ b → (doubled fills s).size ≡ s.size + s.size
-    go true low = ap (λ (z : CordShape). z.size) (if_true (nat_le s.size 511) _ _ low) ∙ added-size fills Back s.size s some
-    go false high = ap (λ (z : CordShape). z.size) (if_false (nat_le s.size 511) _ _ high)
+    go : (b : Bool) → nat_le source.size 511 ≡ b → (with_cord_added fills side source s).size ≡ s.size + source.size
+    go true low = ap (λ (z : CordShape). z.size) (if_true (nat_le source.size 511) _ _ low) ∙ added-size fills side source.size s some
+    go false high = ap (λ (z : CordShape). z.size) (if_false (nat_le source.size 511) _ _ high)
 
 -- ---- a cord joined to itself
 self-shape : (choice : Bool) (side : Side) (names : steps.Names) (a : List ℕ) → joined_shape choice side names a a ≡ doubled choice (shape_in (names a))
@@ -147,28 +146,22 @@ module _ (size limit : ℕ) (old new : Names CordView) (v w : View) (a : List �
 
   -- ---- refused
   module _ (few : length c.bytes ≤ 2147483647) (same : AreSame old new) where
-    differs : (n : ℕ) → n ≢ length c.bytes → (made : CordShape) → made.size ≡ n → (names_made : CordShape) → names_made.size ≡ n → not (nat_eq names_made.size (shape_in (names a)).size) ≡ true
-    differs n ne made e names_made f = ap not (ap (λ (k : ℕ). nat_eq k (shape_in (names a)).size) f ∙ (ap (λ (s : CordShape). nat_eq n s.size) (copied-shape old a c is) ∙ ne_eqb n (length c.bytes) ne))
-
-    alters : (F : CordShape → CordShape) (n : ℕ) → (F (cord_shape c)).size ≡ n → n ≢ length c.bytes → alters_to names a (F (shape_in (names a))) ≡ true
-    alters F n size ne = differs n ne (F (cord_shape c)) size (F (shape_in (names a))) (ap (λ (s : CordShape). (F s).size) (copied-shape old a c is) ∙ size)
-
     add-refused : (side : Side) (text : Text) (y : CordError) (answer : Answer) → IsGrowRefused size limit side (length (text_bytes text)) c y v w → IsBalanced limit y v w → Some answer ≡ refusal_of y → Does size limit old new v w (Plain (adding side a text)) answer
     add-refused side text y answer why balanced told =
         let long = beside-length side c.bytes (text_bytes text) in
         let sized = added-size false side (length (text_bytes text)) (cord_shape c) why.0 ∙ sym long in
         refused-by size limit old new v w a c is same unused (adding side a text) (with_bytes_added false side (length (text_bytes text))) (beside side c.bytes (text_bytes text)) _ _
         (λ all short. add-comes false names all side a text x there short) (λ all over. add-long false names all side a text x there over)
-        sized (alters (with_bytes_added false side (length (text_bytes text))) _ sized (λ e. omega (arith, e, long, why.0))) y answer why.1 balanced told
+        sized (alters old a c is (with_bytes_added false side (length (text_bytes text))) _ sized (λ e. omega (arith, e, long, why.0))) y answer why.1 balanced told
 
     double-refused : (side : Side) (y : CordError) (answer : Answer) → 0 < length c.bytes → IsRefused size limit c.tree (doubled false (cord_shape c)) y v w → IsBalanced limit y v w → Some answer ≡ refusal_of y → Does size limit old new v w (Plain (joining side a a)) answer
     double-refused side y answer some why balanced told =
         let long = beside-length side c.bytes c.bytes in
-        let sized = doubled-size false (cord_shape c) some ∙ sym long in
+        let sized = joined-size false Back (cord_shape c) (cord_shape c) some ∙ sym long in
         refused-by size limit old new v w a c is same unused (joining side a a) (doubled false) (beside side c.bytes c.bytes) (alters_to names a (doubled false (shape_in (names a)))) (changed (plain_of x) (beside side c.bytes c.bytes))
         (λ all short. subst (λ (z : CordShape). ComesTo false names (joining side a a) (changes names a (alters_to names a z) z) (changed (plain_of x) (beside side c.bytes c.bytes))) (self-shape false side names a) (join-comes false names all side a a x x there there short))
         (λ all over. join-long false names all side a a x x there there over)
-        sized (alters (doubled false) _ sized (λ e. omega (arith, e, long, some))) y answer why balanced told
+        sized (alters old a c is (doubled false) _ sized (λ e. omega (arith, e, long, some))) y answer why balanced told
 
     front-refused : (n : ℕ) (y : CordError) (answer : Answer) → 0 < n → n ≤ length c.bytes → IsRefused size limit c.tree (front_cut n (cord_shape c)) y v w → IsBalanced limit y v w → Some answer ≡ refusal_of y → Does size limit old new v w (Plain (commands.CutFront a n)) answer
     front-refused n y answer some within why balanced told =
@@ -176,7 +169,7 @@ module _ (size limit : ℕ) (old new : Names CordView) (v w : View) (a : List �
         let sized = front-size n (cord_shape c) some ∙ sym long in
         refused-by size limit old new v w a c is same unused (commands.CutFront a n) (front_cut n) (drop n c.bytes) _ _
         (λ all short. cut_front-comes false names all a n x there within) (λ all over. absurd (omega (arith, over, long, few)))
-        sized (alters (front_cut n) _ sized (λ e. omega (arith, e, long, some, within))) y answer why balanced told
+        sized (alters old a c is (front_cut n) _ sized (λ e. omega (arith, e, long, some, within))) y answer why balanced told
 
     back-refused : (n : ℕ) (y : CordError) (answer : Answer) → 0 < n → n ≤ length c.bytes → IsRefused size limit c.tree (back_cut false n (cord_shape c)) y v w → IsBalanced limit y v w → Some answer ≡ refusal_of y → Does size limit old new v w (Plain (commands.CutBack a n)) answer
     back-refused n y answer some within why balanced told =
@@ -184,7 +177,7 @@ module _ (size limit : ℕ) (old new : Names CordView) (v w : View) (a : List �
         let sized = back-size false n (cord_shape c) some ∙ sym kept in
         refused-by size limit old new v w a c is same unused (commands.CutBack a n) (back_cut false n) (take (length c.bytes - n) c.bytes) _ _
         (λ all short. cut_back-comes false names all a n x there within) (λ all over. absurd (omega (arith, over, kept, few)))
-        sized (alters (back_cut false n) _ sized (λ e. omega (arith, e, kept, some, within))) y answer why balanced told
+        sized (alters old a c is (back_cut false n) _ sized (λ e. omega (arith, e, kept, some, within))) y answer why balanced told
 
     sum-refused : (value : ℕ) (y : CordError) (answer : Answer) → 0 < length c.bytes → IsRefused size limit c.tree (shapes.with_sum value (cord_shape c)) y v w → IsBalanced limit y v w → Some answer ≡ refusal_of y → Does size limit old new v w (Plain (commands.SetSum a value)) answer
     sum-refused value y answer some why balanced told =

@@ -9,3 +9,7 @@ pub mod Refused
 pub mod Edited
 pub mod EditLaws
 pub mod Absent
+pub mod Joins
+pub mod Slotted
+pub mod Questions
+pub mod Externals

@@ -2,7 +2,7 @@
 use Rattle.std.proofs.Common.{◌≡◌, sym, ap, subst, refl, ℕ, ◌<◌, ◌≤◌, List, length, Option, Some, None, Result, Ok, Err, arith}
 use Rattle.std.specs.Prelude.{IfOk, IfErr, IsTrue, IsSome, is_some, nat_le, option_map}
 use Rattle.std.proofs.lemmas.Bool.{lt-leb}
-use Rattle.tree_shapes.specs.Cords.{CordShape, cord_of_bytes, NeedsHeight12}
+use Rattle.tree_shapes.specs.Cords.{CordShape, cord_of_bytes, sub_cord, NeedsHeight12}
 use Rattle.tree_shapes.proofs.CordLaws.{bytes-whole, cord-low}
 use Rattle.tree_shapes.proofs.KeepLaws.{if_false}
 use Rattle.tree_shapes.specs.Flats.{new_shape}
@@ -11,6 +11,7 @@ use Rattle.node_forest.specs.Label.{Node}
 use Rattle.pool_rule.specs.Views.{View}
 use Rattle.ordered_names.specs.declared.names.Names.{Names}
 use Rattle.ordered_names.specs.Named.{named}
+use Rattle.cord_value.specs.Changes.{IsRefused}
 use Rattle.cord_value.specs.Refusals.{IsMakeRefused, IsCopyRefused}
 use Rattle.cord_value.specs.declared.refusals.CordError.{CordError}
 use Rattle.cord_value.specs.declared.refusals.CordError.TheVariants as errors
@@ -83,6 +84,38 @@ copy-shows size limit t v w (errors.LengthLimit asked) why = tt
 copy-shows size limit t v w (errors.Position asked end) why = tt
 copy-shows size limit t v w (errors.HeightLimit height) why = tt
 copy-shows size limit t v w (errors.NoReleaser used) why = absurd why
+
+-- ---- parts
+abbrev pub parting : Names CordView → List ℕ → ℕ → ℕ → List ℕ → Doing
+parting names a pos n b = record { name = b; manner = Fresh; old = names_of names b; made = sub_cord pos n (shape_in (names_of names a)) }
+
+part-short : (pos n : ℕ) (c : CordShape) → (sub_cord pos n c).size ≤ c.size
+part-short pos n c = omega arith
+
+pub part-refused : (size limit : ℕ) (names : Names CordView) (a : List ℕ) (pos n : ℕ) (b : List ℕ) (c : CordView) (v w : View) (x : CordError) → named names a ≡ Some c → length c.bytes ≤ 2147483647
+    → IsRefused size limit None (sub_cord pos n (cord_shape c)) x v w → Refuses size limit (parting names a pos n b) x
+part-refused size limit names a pos n b c v w x is short why = go x (subst (λ (z : CordShape). IsRefused size limit None (sub_cord pos n z) x v w) (sym (copied-shape names a c is)) why)
+  where
+    few : (sub_cord pos n (shape_in (names_of names a))).size ≤ 2147483647
+    few = subst (λ (z : CordShape). (sub_cord pos n z).size ≤ 2147483647) (sym (copied-shape names a c is)) (let l = part-short pos n (cord_shape c) in omega (arith, l, short))
+
+    go : (x : CordError) → IsRefused size limit None (sub_cord pos n (shape_in (names_of names a))) x v w → Refuses size limit (parting names a pos n b) x
+    go (errors.LengthLimit asked) why = absurd (omega (arith, few, why.0, why.1))
+    go (errors.HeightLimit height) why = why.2
+    go (errors.PassLimit found) why = (why.0.1, why.2, why.3)
+    go (errors.NoNumber seen) why = (why.0.1, why.1, why.2)
+    go errors.Memory why = tt
+    go (errors.Position asked end) why = absurd why
+    go (errors.NoReleaser used) why = absurd why
+
+pub part-shows : (size limit : ℕ) (made : CordShape) (v w : View) (x : CordError) → IsRefused size limit None made x v w → Shows size x v w
+part-shows size limit made v w (errors.LengthLimit asked) why = tt
+part-shows size limit made v w (errors.HeightLimit height) why = tt
+part-shows size limit made v w (errors.PassLimit found) why = tt
+part-shows size limit made v w (errors.NoNumber seen) why = (why.2, why.3)
+part-shows size limit made v w errors.Memory why = tt
+part-shows size limit made v w (errors.Position asked end) why = tt
+part-shows size limit made v w (errors.NoReleaser used) why = absurd why
 
 -- ---- results
 pub ok-weaker : {T E : Type 0} (P Q : T → Type 0) (r : Result T E) → ((x : T) → P x → Q x) → IfOk r P → IfOk r Q

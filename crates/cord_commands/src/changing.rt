@@ -1,5 +1,6 @@
 //! Commands that change the cord of a name.
 ghost use Rattle.std.specs.Prelude.{◌≡◌, ◌≤◌, length, Err, IfOk, OnErr};
+ghost use Rattle.plain_cord.specs.declared.script.Command.TheVariants as commands;
 ghost use Rattle.cord_value.specs.declared.refusals.CordError.TheVariants.{Memory};
 ghost use Rattle.cord_commands.specs.Accounts.{trees_in, IsSteady};
 ghost use Rattle.cord_commands.specs.Answers.{IsAnswerTo};
@@ -65,6 +66,7 @@ pub fn set_sum<P: Naming, B: Releaser>(
 ) -> Result<Answer, AllocError>
     requires room { length w.old.holds ≤ 96 }
     ensures steady { IsSteady w.old w.new (trees_in names.old) (trees_in names.new) }
+    ensures does { IfOk result (λ answer. Does P.size P.limit names.old names.new w.old w.new (Plain (commands.SetSum a.now value)) answer) }
     ensures same { OnErr result (AreSame names.old names.new) }
 {
     match names.find(a) {

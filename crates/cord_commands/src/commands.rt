@@ -1,15 +1,19 @@
 //! The table of commands.
-ghost use Rattle.std.specs.Prelude.{◌≡◌, ◌≤◌, length, None, OnErr};
+ghost use Rattle.std.specs.Prelude.{◌≡◌, ◌≤◌, length, None, IfOk, OnErr};
 ghost use Rattle.plain_cord.specs.Outcomes.{asked_action};
 ghost use Rattle.cord_steps.specs.Answers.{Plain};
 ghost use Rattle.cord_steps.specs.Whole.{IsWithin};
-ghost use Rattle.cord_commands.specs.Accounts.{trees_in, IsSteady};
+ghost use Rattle.cord_steps.specs.Replies.{request_of};
+ghost use Rattle.cord_commands.specs.Accounts.{trees_in, AddsUp, IsSteady};
+ghost use Rattle.cord_commands.specs.Does.{Does};
+ghost use Rattle.cord_commands.specs.Slots.{external_by, SameSlots, Uses};
 ghost use Rattle.cord_commands.specs.Views.{AreSame};
 
 use crate::answer::Answer;
 use crate::asking::{byte, ends, order, place, print, size, starts, sum};
 use crate::changing::{change, set_sum};
 use crate::edits::Edit;
+use crate::external::set_external;
 use crate::joining::join;
 use crate::making::{clear, copy, set_text, sub};
 use cord_port::Releaser;
@@ -30,13 +34,36 @@ pub fn run_command<'a, P: Naming, B: Releaser>(
     requires room { length w.old.holds ≤ 96 }
     requires within { IsWithin (Plain command.now) }
     requires apart { asked_action command.now ≡ None }
+    ensures even { AddsUp w.old w.new (trees_in names.old) (trees_in names.new) }
+    ensures slots { SameSlots w.old w.new }
+    ensures does { IfOk result (λ answer. Does P.size P.limit names.old names.new w.old w.new (request_of command.now) answer) }
+    ensures uses { IfOk result (λ answer. Uses w.old w.new (external_by command.now answer)) }
+    ensures same { OnErr result (AreSame names.old names.new) }
+{
+    match command {
+        Command::Ext { a, text } => set_external(alloc, pool, w, names, a.as_slice(), text),
+        _ => run_own(alloc, pool, w, names, command),
+    }
+}
+
+// Does one that needs no box of the session either.
+fn run_own<'a, P: Naming, B: Releaser>(
+    alloc: Global,
+    pool: &Pool<P, B>,
+    w: &mut Worker<P>,
+    names: &mut Names<'a, Cord<P>>,
+    command: &'a Command,
+) -> Result<Answer, AllocError>
+    requires room { length w.old.holds ≤ 96 }
+    requires within { IsWithin (Plain command.now) }
+    requires apart { asked_action command.now ≡ None }
+    requires own { request_of command.now ≡ Plain command.now }
     ensures steady { IsSteady w.old w.new (trees_in names.old) (trees_in names.new) }
+    ensures does { IfOk result (λ answer. Does P.size P.limit names.old names.new w.old w.new (Plain command.now) answer) }
     ensures same { OnErr result (AreSame names.old names.new) }
 {
     match command {
         Command::Let { a, text } => set_text(alloc, pool, w, names, a.as_slice(), text),
-        // Externals aren't made yet.
-        Command::Ext { .. } => Err(AllocError),
         Command::Copy { a, b } => copy(alloc, pool, w, names, a.as_slice(), b.as_slice()),
         Command::Sub { a, pos, n, b } => {
             sub(alloc, pool, w, names, a.as_slice(), *pos, *n, b.as_slice())
@@ -97,7 +124,10 @@ pub fn run_command<'a, P: Naming, B: Releaser>(
         Command::Compare { a, b } => order(alloc, names, a.as_slice(), b.as_slice()),
         Command::Starts { a, text } => starts(alloc, names, a.as_slice(), text),
         Command::Ends { a, text } => ends(alloc, names, a.as_slice(), text),
-        Command::Put { .. } | Command::Take { .. } | Command::Peek { .. } | Command::Swap { .. } =>
-            unreachable!(),
+        Command::Ext { .. }
+        | Command::Put { .. }
+        | Command::Take { .. }
+        | Command::Peek { .. }
+        | Command::Swap { .. } => unreachable!(),
     }
 }

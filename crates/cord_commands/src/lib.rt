@@ -7,6 +7,7 @@ mod asking;
 mod changing;
 mod commands;
 mod edits;
+mod external;
 mod joining;
 mod lending;
 mod making;

@@ -103,11 +103,13 @@ pub fn sub<'a, P: Naming, B: Releaser>(
 ) -> Result<Answer, AllocError>
     requires room { length w.old.holds ≤ 96 }
     ensures steady { IsSteady w.old w.new (trees_in names.old) (trees_in names.new) }
+    ensures does { IfOk result (λ answer. Does P.size P.limit names.old names.new w.old w.new (Plain (commands.Sub a.now pos n b.now)) answer) }
     ensures same { OnErr result (AreSame names.old names.new) }
 {
     let Some(mut cord) = take_out(names, a) else {
         return unset(alloc, a);
     };
+    let _ = cord.len();
     let made = cord.sub(alloc, pool, w, pos, n);
     put_back(names, a, cord);
     set_made(pool, w, names, b, made)
