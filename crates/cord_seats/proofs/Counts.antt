@@ -11,7 +11,7 @@ use Rattle.cord_value.specs.Views.{CordView}
 use Rattle.cord_board.specs.declared.view.BoardView.{BoardView}
 use Rattle.cord_board.specs.Views.{mine_of, Did}
 use Rattle.board_weights.specs.Weights.{weigh_deeds, weigh_one, weigh_came, weigh_left, got_of}
-use Rattle.cord_commands.specs.Accounts.{trees_of, IsSteady}
+use Rattle.cord_commands.specs.Accounts.{trees_of, AddsUp, IsSteady}
 use Rattle.cord_commands.proofs.Steady.{same-holds}
 use Rattle.cord_seats.specs.Seats.{IsEven, StaysSteady, Settles}
 
@@ -46,6 +46,10 @@ module _ (v w : BoardView CordView) (d : Deed CordView) (did : Did v w d) where
 -- no action
 pub quiet-steady : (t u : View) (before after : ℕ) (mine did : List (Deed CordView)) → did ≡ mine → IsSteady t u before after → StaysSteady t u before after mine did
 quiet-steady t u before after mine did same s = subst (λ (z : List (Deed CordView)). StaysSteady t u before after mine z) (sym same) (record { holds = s.holds; grew = s.grew; accounts = (let m = s.accounts in omega arith) })
+
+-- the same where slots were used
+pub quiet-even : (t u : View) (before after : ℕ) (mine did : List (Deed CordView)) → did ≡ mine → AddsUp t u before after → StaysSteady t u before after mine did
+quiet-even t u before after mine did same s = subst (λ (z : List (Deed CordView)). StaysSteady t u before after mine z) (sym same) (record { holds = s.holds; grew = s.grew; accounts = (let m = s.accounts in omega arith) })
 
 pub even-steady : (t : View) (before after : ℕ) (mine did : List (Deed CordView)) → IsEven before after mine did → StaysSteady t t before after mine did
 even-steady t before after mine did even = record {
