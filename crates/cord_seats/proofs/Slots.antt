@@ -52,7 +52,8 @@ no-external _ asked Height is = refl
 no-external _ asked (Cords found) is = refl
 no-external _ asked (Pool size) is = refl
 
-pub cell-uses : {E : Type 0} (v w : View) (command : Command) (asked : Act × ℕ) (r : Result Answer E) → asked_action command ≡ Some asked → IsIdle v w → IfOk r (λ answer. Uses v w (external_by command answer))
+pub cell-uses : {E : Type 0} (v w : View) (command : Command) (asked : Act × ℕ) (r : Result Answer E) → asked_action command ≡ Some asked → IsIdle v w
+    → IfOk r (λ answer. Uses v w (external_by command answer))
 cell-uses v w command asked (Ok answer) is idle = subst (Uses v w) (sym (no-external command asked answer is)) (idle-uses v w idle)
 cell-uses v w command asked (Err e) is idle = tt
 

@@ -35,7 +35,8 @@ pub record HasRun (size limit boxes p : ℕ) (said : List Command) (answers : Li
   pub at : IsAtWork after names seat w
   pub run : RunsAlone {Report = NoReport} (options_for size limit) p (new_session boxes) (zip (map request_of said) (map told_by answers)) (did_of seat) after
 
-pub run-starts : (size limit p : ℕ) (names : Names CordView) (seat : BoardView CordView) (w : View) → mine_of seat ≡ [] → ((a : List ℕ) → named names a ≡ None) → HasRun size limit (length w.unused) p [] [] names seat w
+pub run-starts : (size limit p : ℕ) (names : Names CordView) (seat : BoardView CordView) (w : View) → mine_of seat ≡ [] → ((a : List ℕ) → named names a ≡ None)
+    → HasRun size limit (length w.unused) p [] [] names seat w
 run-starts size limit p names seat w fresh none = record {
   answered = refl;
   formed = λ q c is. (let n = none q in cc);
@@ -52,7 +53,8 @@ pub run-more : (size limit boxes p : ℕ) (said : List Command) (answers : List 
     → HasRun size limit boxes p (said ++ command ∷ []) (answers ++ answer ∷ []) new after w
 run-more size limit boxes p said answers old new seat after v w command answer r same a =
     let options : Options = options_for size limit in
-    let go : GoesTo options (session_of seat) r.after (request_of command) answer a.now new after w = a.step options r.after (record { numbers = refl; passes = refl; stride = refl }) r.at r.formed in
+    let go : GoesTo options (session_of seat) r.after (request_of command) answer a.now new after w =
+    a.step options r.after (record { numbers = refl; passes = refl; stride = refl }) r.at r.formed in
     let line : Line NoReport = (request_of command, told_by answer) in
     let asked = map request_of said in
     let given : List (steps.Answer NoReport) = map told_by answers in
@@ -69,6 +71,6 @@ run-more size limit boxes p said answers old new seat after v w command answer r
           (subst (λ (n : ℕ). StepsAlone {Report = NoReport} options n r.after line a.now go.after) same go.step));
     }
 
-pub run-tells : (size limit boxes p : ℕ) (said : List Command) (answers : List Answer) (names : Names CordView) (seat : BoardView CordView) (w : View) → HasRun size limit boxes p said answers names seat w
-    → IsToldAlone size limit boxes p said answers (mine_of seat)
+pub run-tells : (size limit boxes p : ℕ) (said : List Command) (answers : List Answer) (names : Names CordView) (seat : BoardView CordView) (w : View)
+    → HasRun size limit boxes p said answers names seat w → IsToldAlone size limit boxes p said answers (mine_of seat)
 run-tells size limit boxes p said answers names seat w r = record { answered = r.answered; after = r.after; run = r.run }

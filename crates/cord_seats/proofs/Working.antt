@@ -100,7 +100,8 @@ module _ (size limit : ℕ) (v w : View) (old new : Names CordView) (unused : w.
       (λ options s for have. swap-unset {R = NoReport} options (session_of seat) s a cell (ap (λ (z : cords.Names). z a) have ∙ none-in old a none)))
 
   -- ---- there was no pass
-  pub peek-refused-advances : (seat : BoardView CordView) (cell : ℕ) (a : List ℕ) (found : ℕ) → limit ≤ found → AreSame old new → Advances size limit seat seat v w old new (Plain (commands.Peek cell a)) (Cords found)
+  pub peek-refused-advances : (seat : BoardView CordView) (cell : ℕ) (a : List ℕ) (found : ℕ) → limit ≤ found → AreSame old new
+      → Advances size limit seat seat v w old new (Plain (commands.Peek cell a)) (Cords found)
   peek-refused-advances seat cell a found most same = advances-quiet seat (Plain (commands.Peek cell a)) (Cords found) same
       (λ options s for have. peek-refused {R = NoReport} options (session_of seat) s cell a found (omega (arith, for.passes, most)))
 
@@ -134,7 +135,8 @@ module _ (size limit : ℕ) (v w : View) (old new : Names CordView) (unused : w.
         (take-alone {R = NoReport} options (session_of seat) s cell a (Some (cord_in c)) (names_of new) (set-names s a c have set))))
 
     pub take-empty-advances : (cell : ℕ) (a : List ℕ) (answer : Answer) → AreSame old new
-        → Did seat after (deed (session_of seat) (next_place seat) Take cell None None) → answer ≡ Told (replies.Empty cell) → Advances size limit seat after v w old new (Plain (commands.Take cell a)) answer
+        → Did seat after (deed (session_of seat) (next_place seat) Take cell None None) → answer ≡ Told (replies.Empty cell)
+        → Advances size limit seat after v w old new (Plain (commands.Take cell a)) answer
     take-empty-advances cell a answer same did is = subst (Advances size limit seat after v w old new (Plain (commands.Take cell a))) (sym is)
         (advances-acting seat after (Plain (commands.Take cell a)) (Told (replies.Empty cell)) (deed (session_of seat) (next_place seat) Take cell None None) did (formed-same old new same)
         (λ options s have place. subst (λ (z : ℕ). StepsAlone {Report = NoReport} options (session_of seat) s (Plain (commands.Take cell a), steps.Told (replies.Empty cell))
@@ -150,7 +152,8 @@ module _ (size limit : ℕ) (v w : View) (old new : Names CordView) (unused : w.
         (peek-alone {R = NoReport} options (session_of seat) s cell a (Some (cord_in c)) (gave_up None) (names_of new) (refl, sym (no-stamp s a have)) (set-names s a c have set))))
 
     pub peek-empty-advances : (cell : ℕ) (a : List ℕ) (answer : Answer) → AreSame old new
-        → Did seat after (deed (session_of seat) (next_place seat) Peek cell None None) → answer ≡ Told (replies.Empty cell) → Advances size limit seat after v w old new (Plain (commands.Peek cell a)) answer
+        → Did seat after (deed (session_of seat) (next_place seat) Peek cell None None) → answer ≡ Told (replies.Empty cell)
+        → Advances size limit seat after v w old new (Plain (commands.Peek cell a)) answer
     peek-empty-advances cell a answer same did is = subst (Advances size limit seat after v w old new (Plain (commands.Peek cell a))) (sym is)
         (advances-acting seat after (Plain (commands.Peek cell a)) (Told (replies.Empty cell)) (deed (session_of seat) (next_place seat) Peek cell None None) did (formed-same old new same)
         (λ options s have place. subst (λ (z : ℕ). StepsAlone {Report = NoReport} options (session_of seat) s (Plain (commands.Peek cell a), steps.Told (replies.Empty cell))
@@ -163,24 +166,29 @@ module _ (size limit : ℕ) (v w : View) (old new : Names CordView) (unused : w.
         (advances-acting seat after (Plain (commands.Swap a cell)) ok (deed (session_of seat) (next_place seat) Swap cell (Some item) (Some c)) did (formed-set old new a c set whole)
         (λ options s have place. subst (λ (z : ℕ). StepsAlone {Report = NoReport} options (session_of seat) s (Plain (commands.Swap a cell), steps.Told (gave_up None))
         (deed (session_of seat) z Swap cell (Some (cord_in item)) (Some (cord_in c)) ∷ []) (acted_with s (names_of new))) place
-        (swap-alone {R = NoReport} options (session_of seat) s a cell (cord_in item) (Some (cord_in c)) (names_of new) (ap (λ (z : cords.Names). z a) have ∙ found-in old a item own) (set-names s a c have set))))
+        (swap-alone {R = NoReport} options (session_of seat) s a cell (cord_in item) (Some (cord_in c)) (names_of new) (ap (λ (z : cords.Names). z a) have ∙ found-in old a item own)
+        (set-names s a c have set))))
 
     pub swap-empty-advances : (a : List ℕ) (cell : ℕ) (item : CordView) (answer : Answer) → named old a ≡ Some item → AreSame old new
-        → Did seat after (deed (session_of seat) (next_place seat) Swap cell None None) → answer ≡ Told (replies.Empty cell) → Advances size limit seat after v w old new (Plain (commands.Swap a cell)) answer
+        → Did seat after (deed (session_of seat) (next_place seat) Swap cell None None) → answer ≡ Told (replies.Empty cell)
+        → Advances size limit seat after v w old new (Plain (commands.Swap a cell)) answer
     swap-empty-advances a cell item answer own same did is = subst (Advances size limit seat after v w old new (Plain (commands.Swap a cell))) (sym is)
         (advances-acting seat after (Plain (commands.Swap a cell)) (Told (replies.Empty cell)) (deed (session_of seat) (next_place seat) Swap cell None None) did (formed-same old new same)
         (λ options s have place. subst (λ (z : ℕ). StepsAlone {Report = NoReport} options (session_of seat) s (Plain (commands.Swap a cell), steps.Told (replies.Empty cell))
         (deed (session_of seat) z Swap cell None None ∷ []) (acted_with s (names_of new))) place
-        (swap-alone {R = NoReport} options (session_of seat) s a cell (cord_in item) None (names_of new) (ap (λ (z : cords.Names). z a) have ∙ found-in old a item own) (kept-names s have same))))
+        (swap-alone {R = NoReport} options (session_of seat) s a cell (cord_in item) None (names_of new) (ap (λ (z : cords.Names). z a) have ∙ found-in old a item own)
+        (kept-names s have same))))
 
 -- a command on names
-pub does-advances : (size limit : ℕ) (v w : View) (old new : Names CordView) (seat : BoardView CordView) (request : Request) (answer : Answer) → IsApart request → Does size limit old new v w request answer → Advances size limit seat seat v w old new request answer
+pub does-advances : (size limit : ℕ) (v w : View) (old new : Names CordView) (seat : BoardView CordView) (request : Request) (answer : Answer) → IsApart request
+    → Does size limit old new v w request answer → Advances size limit seat seat v w old new request answer
 does-advances size limit v w old new seat request answer apart does = record {
   formed = does.formed;
   now = [];
   did = sym (append-nil (did_of seat));
   step = λ options s for at whole.
-      let to : StepsTo {Report = NoReport} options (session_of seat) s request (told_by answer) (names_of new) (s.externals + does.externals) = does.step options (session_of seat) s for at.at whole in
+      let to : StepsTo {Report = NoReport} options (session_of seat) s request (told_by answer) (names_of new) (s.externals + does.externals) =
+      does.step options (session_of seat) s for at.at whole in
       let after : Session = record s { names = names_of new; trees = to.trees; externals = s.externals + does.externals } in
       record {
         after = after;
@@ -210,7 +218,8 @@ nothing-there Q (Some x) (Some y) none told = cc
 nothing-there Q (Some x) None none told = absurd told
 
 -- a copy was made, so it is one of what was there
-pub something-there : {A B : Type 0} (Q : A → B → Type 0) (was : Option A) (res : Option B) (y : B) → res ≡ Some y → MatchOption was (IsNone res) (λ x. IsSomeAnd res (λ z. Q x z)) → (x : A) × (was ≡ Some x) × Q x y
+pub something-there : {A B : Type 0} (Q : A → B → Type 0) (was : Option A) (res : Option B) (y : B) → res ≡ Some y → MatchOption was (IsNone res) (λ x. IsSomeAnd res (λ z. Q x z))
+    → (x : A) × (was ≡ Some x) × Q x y
 something-there Q None (Some z) y is told = cc
 something-there Q None None y is told = cc
 something-there Q (Some x) None y is told = absurd told

@@ -24,7 +24,8 @@ returns-in_default-clause-told g c =
     let old = c.args.names.now in
     let new = c.take_out.new.names in
     let a = c.args.a.now in
-    answered-as (λ answer. (w : View) → Advances g.P.Naming.size g.P.Naming.limit seat seat w w old new (Plain (commands.Swap a c.args.cell)) answer) c.unset.result (Told (replies.Unset a)) c.unset.ensures
+    answered-as (λ answer. (w : View) → Advances g.P.Naming.size g.P.Naming.limit seat seat w w old new (Plain (commands.Swap a c.args.cell)) answer) c.unset.result (Told (replies.Unset a))
+    c.unset.ensures
     (λ w. swap-unset-advances g.P.Naming.size g.P.Naming.limit w w old new refl seat a c.args.cell (Told (replies.Unset a)) (sym c.in_default.ensures.found) c.in_default.ensures.same.0 refl)
 
 pub returns-in-Ok-clause-even : goal.returns-in-Ok-clause-even

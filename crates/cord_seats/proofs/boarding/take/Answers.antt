@@ -18,7 +18,8 @@ use Rattle.cord_seats.proofs.Working.{take-advances, take-empty-advances}
 use Rattle.cord_seats.proofs.boarding.take.Goals as goal
 
 pub returns-in_default-clause-steady : goal.returns-in_default-clause-steady
-returns-in_default-clause-steady g c = acted-steady (board_view c.args.seat.now) (board_view c.take.new.pass) _ c.in_default.ensures.did c.args.w.now c.args.w.now _ _ 0 0 (same-steady _ _ 0 refl) (omega arith)
+returns-in_default-clause-steady g c =
+    acted-steady (board_view c.args.seat.now) (board_view c.take.new.pass) _ c.in_default.ensures.did c.args.w.now c.args.w.now _ _ 0 0 (same-steady _ _ 0 refl) (omega arith)
 
 pub returns-in_default-clause-idle : goal.returns-in_default-clause-idle
 returns-in_default-clause-idle g c = idle-same _ _ refl

@@ -45,6 +45,9 @@ loop-i-preserved g c =
     let parts = entries-drop i commands command (omega arith) c.index-commands-i.is in
     let p = session_of (board_view c.args.seat.now) in
     let boxes = length c.args.w.now.unused in
+    let names = c.do_command.new.names in
+    let seat = board_view c.do_command.new.seat in
+    let w = c.do_command.new.w in
     let more : take i commands ++ command ∷ [] ≡ take (i + 1) commands = take-more commands i command inside c.index-commands-i.is in
     let items : c.push_reserved.new.self.items ≡ c.loop-i.answers.items ++ answer ∷ [] = c.push_reserved.ensures.items in
     record {
@@ -53,12 +56,12 @@ loop-i-preserved g c =
       same = on.same ∙ inv.same;
       left = omega arith;
       room = search rules;
-      ran = subst (λ (z : List Command × List Answer). HasRun g.P.Naming.size g.P.Naming.limit boxes p z.0 z.1 c.do_command.new.names (board_view c.do_command.new.seat) c.do_command.new.w) (λ k. (more k, sym items k))
-          (run-more g.P.Naming.size g.P.Naming.limit boxes p (take i commands) c.loop-i.answers.items c.loop-i.names c.do_command.new.names (board_view c.loop-i.seat) (board_view c.do_command.new.seat) c.loop-i.w c.do_command.new.w
-          command answer inv.ran inv.same c.in_ok-answer.ensures.told);
-      uses = subst (λ (z : List Command × List Answer). Uses c.args.w.now c.do_command.new.w (externals_by z.0 z.1)) (λ k. (more k, sym items k))
-          (subst (Uses c.args.w.now c.do_command.new.w) (sym (externals-more (take i commands) c.loop-i.answers.items command answer inv.ran.answered))
-          (uses-then c.args.w.now c.loop-i.w c.do_command.new.w (externals_by (take i commands) c.loop-i.answers.items) (external_by command answer) inv.uses c.in_ok-answer.ensures.uses));
+      ran = subst (λ (z : List Command × List Answer). HasRun g.P.Naming.size g.P.Naming.limit boxes p z.0 z.1 names seat w) (λ k. (more k, sym items k))
+          (run-more g.P.Naming.size g.P.Naming.limit boxes p (take i commands) c.loop-i.answers.items c.loop-i.names names (board_view c.loop-i.seat) seat
+          c.loop-i.w w command answer inv.ran inv.same c.in_ok-answer.ensures.told);
+      uses = subst (λ (z : List Command × List Answer). Uses c.args.w.now w (externals_by z.0 z.1)) (λ k. (more k, sym items k))
+          (subst (Uses c.args.w.now w) (sym (externals-more (take i commands) c.loop-i.answers.items command answer inv.ran.answered))
+          (uses-then c.args.w.now c.loop-i.w w (externals_by (take i commands) c.loop-i.answers.items) (external_by command answer) inv.uses c.in_ok-answer.ensures.uses));
       steady = stays-then _ _ _ _ _ _ _ _ _ inv.steady c.do_command.ensures.steady;
     }
 

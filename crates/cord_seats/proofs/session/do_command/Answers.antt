@@ -43,7 +43,7 @@ pub run_command-requires-clause-within : goal.run_command-requires-clause-within
 run_command-requires-clause-within g c = within-steps c.args.command.now c.requires.runnable
 
 pub run_command-requires-clause-apart : goal.run_command-requires-clause-apart
-run_command-requires-clause-apart g c = apart c.args.command.now (λ a cell. c.in_default.not-Put a cell) (λ cell a. c.in_default.not-Take cell a) (λ cell a. c.in_default.not-Peek cell a) (λ a cell. c.in_default.not-Swap a cell)
+run_command-requires-clause-apart g c = apart c.args.command.now c.in_default.not-Put c.in_default.not-Take c.in_default.not-Peek c.in_default.not-Swap
 
 pub returns-in_default-clause-steady : goal.returns-in_default-clause-steady
 returns-in_default-clause-steady g c = quiet-even _ _ _ _ _ _ refl c.run_command.ensures.even
@@ -56,6 +56,6 @@ returns-in_default-clause-told g c =
     let old = c.args.names.now in
     let new = c.run_command.new.names in
     let request = request_of c.args.command.now in
-    let none = apart c.args.command.now (λ a cell. c.in_default.not-Put a cell) (λ cell a. c.in_default.not-Take cell a) (λ cell a. c.in_default.not-Peek cell a) (λ a cell. c.in_default.not-Swap a cell) in
+    let none = apart c.args.command.now c.in_default.not-Put c.in_default.not-Take c.in_default.not-Peek c.in_default.not-Swap in
     ok-weaker (Does g.P.Naming.size g.P.Naming.limit old new v w request) (Advances g.P.Naming.size g.P.Naming.limit seat seat v w old new request) c.run_command.result
     (λ answer does. does-advances g.P.Naming.size g.P.Naming.limit v w old new seat request answer (apart-request c.args.command.now none) does) c.run_command.ensures.does
