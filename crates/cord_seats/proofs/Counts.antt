@@ -11,8 +11,8 @@ use Rattle.cord_value.specs.Views.{CordView}
 use Rattle.cord_board.specs.declared.view.BoardView.{BoardView}
 use Rattle.cord_board.specs.Views.{mine_of, Did}
 use Rattle.board_weights.specs.Weights.{weigh_deeds, weigh_one, weigh_came, weigh_left, got_of}
-use Rattle.cord_commands.specs.Accounts.{trees_of, IsSteady}
-use Rattle.cord_commands.proofs.Steady.{same-holds}
+use Rattle.cord_commands.specs.Accounts.{trees_of, AddsUp, IsSteady}
+use Rattle.cord_commands.proofs.Steady.{same-holds, steady-then}
 use Rattle.cord_seats.specs.Seats.{IsEven, StaysSteady, Settles}
 
 -- one action more
@@ -44,8 +44,12 @@ module _ (v w : BoardView CordView) (d : Deed CordView) (did : Did v w d) where
   acted-even before after even = let c = came-more in let l = left-more in omega arith
 
 -- no action
+pub quiet-even : (t u : View) (before after : ℕ) (mine did : List (Deed CordView)) → did ≡ mine → AddsUp t u before after → StaysSteady t u before after mine did
+quiet-even t u before after mine did same s = subst (λ (z : List (Deed CordView)). StaysSteady t u before after mine z) (sym same)
+    (record { holds = s.holds; grew = s.grew; accounts = (let m = s.accounts in omega arith) })
+
 pub quiet-steady : (t u : View) (before after : ℕ) (mine did : List (Deed CordView)) → did ≡ mine → IsSteady t u before after → StaysSteady t u before after mine did
-quiet-steady t u before after mine did same s = subst (λ (z : List (Deed CordView)). StaysSteady t u before after mine z) (sym same) (record { holds = s.holds; grew = s.grew; accounts = (let m = s.accounts in omega arith) })
+quiet-steady t u before after mine did same s = quiet-even t u before after mine did same (record { holds = s.holds; grew = s.grew; accounts = s.accounts })
 
 pub even-steady : (t : View) (before after : ℕ) (mine did : List (Deed CordView)) → IsEven before after mine did → StaysSteady t t before after mine did
 even-steady t before after mine did even = record {
@@ -90,6 +94,10 @@ pass-steady limit v w made = record {
   idle = refl;
   accounts = (let m = ap (λ (z : View). z.made) made.view in let n = ap (λ (z : View). z.ended) made.view in omega arith);
 }
+
+-- and a copy came into it, or it ended
+pub copy-steady : (limit : ℕ) (u v w : View) (n : ℕ) → IsPassMade limit u v → IsSteady v w 1 n → IsSteady u w 0 n
+copy-steady limit u v w n made steady = steady-then u v w 0 1 n (pass-steady limit u v made) steady
 
 pub undone-steady : (found : ℕ) (v w : View) → w ≡ uncounted (counted found v) → IsSteady v w 0 0
 undone-steady found v w is = record {

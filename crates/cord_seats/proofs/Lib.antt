@@ -6,4 +6,7 @@ pub mod Counts
 pub mod Entries
 pub mod Lists
 pub mod Roots
+pub mod Slots
+pub mod Told
 pub mod Whole
+pub mod Working

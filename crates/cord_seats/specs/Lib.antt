@@ -6,3 +6,4 @@ pub mod Entries
 pub mod Peeks
 pub mod Seats
 pub mod Told
+pub mod Working

@@ -1,12 +1,16 @@
 //! The commands of a session that move cords to and from the board's cells. No bytes are copied.
-ghost use Rattle.std.specs.Prelude.{◌≡◌, ◌≤◌, ◌<◌, length};
+ghost use Rattle.std.specs.Prelude.{◌≡◌, ◌≤◌, ◌<◌, length, IfOk};
 ghost use Rattle.plain_cord.specs.declared.reply.Reply.TheVariants as replies;
+ghost use Rattle.plain_cord.specs.declared.script.Command.TheVariants as commands;
+ghost use Rattle.pool_rule.specs.Views.{View};
+ghost use Rattle.cord_steps.specs.Answers.{Plain};
 ghost use Rattle.cord_board.specs.Passes.{board_view, IsOn};
 ghost use Rattle.cord_board.specs.Views.{mine_of, CanAct};
 ghost use Rattle.board_weights.specs.Weights.{weigh_one};
 ghost use Rattle.cord_commands.specs.declared.answer.Answer.TheVariants as answers;
 ghost use Rattle.cord_commands.specs.Accounts.{trees_of, trees_in, IsSteady};
 ghost use Rattle.cord_seats.specs.Seats.{GoesOn, IsEven, StaysSteady};
+ghost use Rattle.cord_seats.specs.Working.{IsIdle, Advances};
 
 use crate::board_cord::BoardCord;
 use cord_board::{Board, BoardPass};
@@ -59,6 +63,9 @@ pub fn put<R: Wait, P: Naming, B: Releaser>(
     ensures board { IsOn board.now seat.new }
     ensures on { GoesOn (board_view seat.old) (board_view seat.new) 1 }
     ensures steady { StaysSteady w.old w.new (trees_in names.old) (trees_in names.new) (mine_of (board_view seat.old)) (mine_of (board_view seat.new)) }
+    ensures idle { IsIdle w.old w.new }
+    ensures told { IfOk result
+        (λ answer. Advances P.size P.limit (board_view seat.old) (board_view seat.new) w.old w.new names.old names.new (Plain (commands.Put a.now cell)) answer) }
 {
     let Some(cord) = take_out(names, a) else {
         return unset(alloc, a);
@@ -86,11 +93,16 @@ pub fn take<'a, R: Wait, P: Naming, B: Releaser>(
     ensures board { IsOn board.now seat.new }
     ensures on { GoesOn (board_view seat.old) (board_view seat.new) 1 }
     ensures steady { StaysSteady w.old w.new (trees_in names.old) (trees_in names.new) (mine_of (board_view seat.old)) (mine_of (board_view seat.new)) }
+    ensures idle { IsIdle w.old w.new }
+    ensures told { IfOk result
+        (λ answer. Advances P.size P.limit (board_view seat.old) (board_view seat.new) w.old w.new names.old names.new (Plain (commands.Take cell a.now)) answer) }
 {
     let Some(found) = board.take(rt, seat, cell) else {
         return Ok(empty(cell));
     };
-    set_made(pool, w, names, a, Ok(found.into_cord()))
+    let cord = found.into_cord();
+    let _ = cord.len();
+    set_made(pool, w, names, a, Ok(cord))
 }
 
 /// Exchanges the cord of a name for that of a cell. Where the cell is empty nothing changes.
@@ -109,13 +121,17 @@ pub fn swap<R: Wait, P: Naming>(
     ensures board { IsOn board.now seat.new }
     ensures on { GoesOn (board_view seat.old) (board_view seat.new) 1 }
     ensures even { IsEven (trees_in names.old) (trees_in names.new) (mine_of (board_view seat.old)) (mine_of (board_view seat.new)) }
+    ensures told { IfOk result (λ answer. (w : View)
+        → Advances P.size P.limit (board_view seat.old) (board_view seat.new) w w names.old names.new (Plain (commands.Swap a.now cell)) answer) }
 {
     let Some(cord) = take_out(names, a) else {
         return unset(alloc, a);
     };
     match board.swap(rt, seat, cell, BoardCord::of(cord)) {
         Ok(found) => {
-            put_back(names, a, found.into_cord());
+            let cord = found.into_cord();
+            let _ = cord.len();
+            put_back(names, a, cord);
             Ok(done())
         }
         Err(back) => {

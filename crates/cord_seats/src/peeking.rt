@@ -1,13 +1,16 @@
 //! Peeks: a name is set to a copy of a cell's cord.
 ghost use Rattle.std.specs.Prelude.{◌≡◌, ◌≤◌, ◌<◌, ◌+◌, [], length, IfOk, IfSome, IsNone, IsSomeAnd, MatchOption, Option, None};
 ghost use Rattle.plain_cord.specs.declared.history.Act.TheVariants.{Peek};
+ghost use Rattle.plain_cord.specs.declared.script.Command.TheVariants as commands;
 ghost use Rattle.plain_cord.specs.Deeds.{deed};
 ghost use Rattle.cord_value.specs.Views.{CordView};
+ghost use Rattle.cord_steps.specs.Answers.{Plain};
 ghost use Rattle.cord_board.specs.Passes.{board_view, IsOn};
 ghost use Rattle.cord_board.specs.Views.{mine_of, session_of, next_place, CanAct, Did};
 ghost use Rattle.cord_commands.specs.Accounts.{trees_in, IsSteady};
 ghost use Rattle.cord_seats.specs.Peeks.{copied_trees, one_if};
 ghost use Rattle.cord_seats.specs.Seats.{GoesOn, StaysSteady};
+ghost use Rattle.cord_seats.specs.Working.{IsIdle, Advances};
 
 use crate::board_cord::{BoardCord, Peeker};
 use crate::boarding::empty;
@@ -83,6 +86,9 @@ pub fn peek<'a, R: Wait, P: Naming, B: Releaser>(
     ensures board { IsOn board.now seat.new }
     ensures on { GoesOn (board_view seat.old) (board_view seat.new) 1 }
     ensures steady { StaysSteady w.old w.new (trees_in names.old) (trees_in names.new) (mine_of (board_view seat.old)) (mine_of (board_view seat.new)) }
+    ensures idle { IsIdle w.old w.new }
+    ensures told { IfOk result
+        (λ answer. Advances P.size P.limit (board_view seat.old) (board_view seat.new) w.old w.new names.old names.new (Plain (commands.Peek cell a.now)) answer) }
 {
     let pass = match pool.pass(w) {
         Ok(pass) => pass,
@@ -92,5 +98,7 @@ pub fn peek<'a, R: Wait, P: Naming, B: Releaser>(
         return Ok(empty(cell));
     };
     let copy = copied?;
-    set_made(pool, w, names, a, Ok(copy.into_cord()))
+    let cord = copy.into_cord();
+    let _ = cord.len();
+    set_made(pool, w, names, a, Ok(cord))
 }

@@ -1,14 +1,17 @@
 //! One session of a script.
-ghost use Rattle.std.specs.Prelude.{◌≡◌, ◌≤◌, [], length, IfOk};
+ghost use Rattle.std.specs.Prelude.{◌≡◌, ◌≤◌, ℕ, List, [], length, None, IfOk};
 ghost use Rattle.std.specs.List.{All};
 ghost use Rattle.script_words.specs.Forms.{IsWithin};
 ghost use Rattle.cord_board.specs.Passes.{board_view, IsOn};
 ghost use Rattle.cord_board.specs.Views.{entries_left, session_of, mine_of, IsSession};
-ghost use Rattle.ordered_names.specs.Named.{all_in};
+ghost use Rattle.ordered_names.specs.Named.{named, all_in};
+ghost use Rattle.cord_steps.specs.Replies.{request_of};
 ghost use Rattle.cord_commands.specs.Accounts.{trees_in, IsSteady};
+ghost use Rattle.cord_commands.specs.Slots.{external_by, SameSlots, Uses};
 ghost use Rattle.cord_seats.specs.Entries.{entries_for, entries_for_all};
 ghost use Rattle.cord_seats.specs.Seats.{GoesOn, Settles, StaysSteady};
-ghost use Rattle.cord_seats.specs.Told.{IsToldAlone};
+ghost use Rattle.cord_seats.specs.Told.{IsToldAlone, externals_by};
+ghost use Rattle.cord_seats.specs.Working.{Advances};
 
 use crate::board_cord::BoardCord;
 use crate::boarding::{put, swap, take};
@@ -41,6 +44,10 @@ fn do_command<'a, R: Wait, P: Naming, B: Releaser>(
     ensures board { IsOn board.now seat.new }
     ensures on { GoesOn (board_view seat.old) (board_view seat.new) (entries_for command.now) }
     ensures steady { StaysSteady w.old w.new (trees_in names.old) (trees_in names.new) (mine_of (board_view seat.old)) (mine_of (board_view seat.new)) }
+    ensures slots { SameSlots w.old w.new }
+    ensures uses { IfOk result (λ answer. Uses w.old w.new (external_by command.now answer)) }
+    ensures told { IfOk result
+        (λ answer. Advances P.size P.limit (board_view seat.old) (board_view seat.new) w.old w.new names.old names.new (request_of command.now) answer) }
 {
     match command {
         Command::Put { a, cell } => {
@@ -67,12 +74,16 @@ fn do_all<'a, R: Wait, P: Naming, B: Releaser, G: Gate>(
 ) -> Result<Vec<Answer>, AllocError>
     requires runnable { All IsWithin commands.now }
     requires board { IsOn board.now seat.old }
-    requires session { IsSession (board_view seat.old) }
+    requires fresh { IsSession (board_view seat.old) × (mine_of (board_view seat.old) ≡ []) }
+    requires none { (a : List ℕ) → named names.old a ≡ None }
     requires room { entries_for_all commands.now ≤ entries_left (board_view seat.old) }
     requires holds { length w.old.holds ≤ 96 }
     ensures board { IsOn board.now seat.new }
     ensures seat { IsSession (board_view seat.new) × (session_of (board_view seat.new) ≡ session_of (board_view seat.old)) }
-    ensures told { IfOk result (λ answers. IsToldAlone (session_of (board_view seat.old)) commands.now answers.items (mine_of (board_view seat.new))) }
+    ensures told { IfOk result (λ answers. IsToldAlone P.size P.limit (length w.old.unused) (session_of (board_view seat.old)) commands.now answers.items
+        (mine_of (board_view seat.new))) }
+    ensures slots { SameSlots w.old w.new }
+    ensures uses { IfOk result (λ answers. Uses w.old w.new (externals_by commands.now answers.items)) }
     ensures steady { StaysSteady w.old w.new (trees_in names.old) (trees_in names.new) (mine_of (board_view seat.old)) (mine_of (board_view seat.new)) }
 {
     let number = usize::from(seat.session());
@@ -121,7 +132,10 @@ pub fn run_session<R: Wait, P: Naming, B: Releaser, G: Gate>(
     ensures board { IsOn board.now seat.new }
     ensures seat { IsSession (board_view seat.new) × (session_of (board_view seat.new) ≡ session_of (board_view seat.old)) }
     ensures settled { Settles w.old w.new (mine_of (board_view seat.new)) }
-    ensures told { IfOk result (λ answers. IsToldAlone (session_of (board_view seat.old)) session.now.commands answers.items (mine_of (board_view seat.new))) }
+    ensures told { IfOk result (λ answers. IsToldAlone P.size P.limit (length w.old.unused) (session_of (board_view seat.old)) session.now.commands
+        answers.items (mine_of (board_view seat.new))) }
+    ensures slots { SameSlots w.old w.new }
+    ensures uses { IfOk result (λ answers. Uses w.old w.new (externals_by session.now.commands answers.items)) }
 {
     let mut names = Names::new(alloc);
     let answers = do_all(
