@@ -1,12 +1,17 @@
 -- Each session has as many answers as commands.
-use Rattle.std.proofs.Common.{◌≡◌, ap, refl, subst, ℕ, suc, ◌<◌, List, [], ◌∷◌, length, map, get_or, Option, Some, None, arith}
+use Rattle.std.proofs.Common.{◌≡◌, ◌∙◌, ap, refl, subst, ℕ, suc, ◌<◌, List, [], ◌∷◌, length, map, get_or, Option, Some, None, arith}
 use Rattle.std.specs.Prelude.{IfSome}
+use Rattle.std.proofs.Math.ListN.{get_or-map}
 use Rattle.plain_cord.specs.declared.script.Session.{Session}
 use Rattle.cord_commands.specs.declared.answer.Answer.{Answer}
 
 pub some-weaker : {A : Type 0} (o : Option A) (P Q : A → Type 0) → ((x : A) → P x → Q x) → IfSome o P → IfSome o Q
 some-weaker None P Q f p = tt
 some-weaker (Some x) P Q f p = f x p
+
+-- where all are there, so is each
+pub all-there : {A : Type 0} (found : List (Option A)) (all : List A) → found ≡ map (λ a. Some a) all → (p : ℕ) (a : A) → get_or found p (Some a) ≡ Some (get_or all p a)
+all-there found all is p a = ap (λ z. get_or z p (Some a)) is ∙ get_or-map (λ b. Some b) all p a
 
 module _ {A : Type 0} (items : A → List Answer) where
   pub all-answered : (sessions : List Session) (found : List (Option A)) (all : List A) → found ≡ map (λ a. Some a) all → length found ≡ length sessions

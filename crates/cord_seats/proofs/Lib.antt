@@ -1,11 +1,15 @@
 pub mod Answered
 pub mod Apart
+pub mod Boxes
 pub mod Clearing
 pub mod Copies
 pub mod Counts
 pub mod Entries
+pub mod Finished
 pub mod Lists
+pub mod Places
 pub mod Roots
+pub mod Runs
 pub mod Slots
 pub mod Told
 pub mod Whole

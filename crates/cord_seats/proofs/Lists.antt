@@ -1,5 +1,7 @@
 -- Lists read by place.
 use Rattle.std.proofs.Common.{◌≡◌, ◌⊎◌, ℕ, zero, suc, ◌+◌, ◌<◌, ◌≤◌, List, [], ◌∷◌, ◌++◌, ◌||◌, eqb, Bool, true, false, length, take, get_or, sym, refl, ap, ◌∙◌, subst, inl, inr, ⊎_elim, arith, ne_eqb, eqb-true}
+use Rattle.std.proofs.lemmas.List.{get_or_append_left}
+use Rattle.std.proofs.Math.Seq.{get_or-append_seam}
 use Rattle.cord_board.specs.Views.{has}
 use Rattle.cord_seats.specs.Chairs.{below}
 
@@ -9,7 +11,7 @@ module _ {A : Type 0} where
   any_default (x ∷ xs) zero a b h = refl
   any_default (x ∷ xs) (suc i) a b h = any_default xs i a b (omega arith)
 
-  get_snoc : (xs : List A) (x d : A) (i n : ℕ) → length xs ≡ n → i < n + 1 → ((i < n) × (get_or (xs ++ x ∷ []) i d ≡ get_or xs i d)) ⊎ ((i ≡ n) × (get_or (xs ++ x ∷ []) i d ≡ x))
+  pub get_snoc : (xs : List A) (x d : A) (i n : ℕ) → length xs ≡ n → i < n + 1 → ((i < n) × (get_or (xs ++ x ∷ []) i d ≡ get_or xs i d)) ⊎ ((i ≡ n) × (get_or (xs ++ x ∷ []) i d ≡ x))
   get_snoc [] x d zero n e h = inr (omega arith, refl)
   get_snoc [] x d (suc i) n e h = absurd (omega arith)
   get_snoc (y ∷ xs) x d zero n e h = inl (omega arith, refl)
@@ -21,6 +23,15 @@ module _ {A : Type 0} where
       (λ (t : (p < n) × (get_or (xs ++ x ∷ []) p d ≡ get_or xs p d)). subst (Q p) (sym t.1) (each p d t.0))
       (λ (t : (p ≡ n) × (get_or (xs ++ x ∷ []) p d ≡ x)). subst (λ (z : ℕ × A). Q z.0 z.1) (λ i. (sym t.0 i, sym t.1 i)) here)
       (get_snoc xs x d p n len h)
+
+  -- what holds of the elements of two lists side by side, after one more of each
+  pub each_more_two : {B : Type 0} (Q : ℕ → A → B → Type 0) (xs : List A) (ys : List B) (x : A) (y : B) (n : ℕ) → length xs ≡ n → length ys ≡ n
+      → ((p : ℕ) (d : A) (e : B) → p < n → Q p (get_or xs p d) (get_or ys p e)) → Q n x y
+      → (p : ℕ) (d : A) (e : B) → p < n + 1 → Q p (get_or (xs ++ x ∷ []) p d) (get_or (ys ++ y ∷ []) p e)
+  each_more_two {B} Q xs ys x y n len many each here p d e h = each_more (λ q u. (f : B) → Q q u (get_or (ys ++ y ∷ []) q f)) xs x n len
+      (λ q u l f. subst (Q q (get_or xs q u)) (sym (get_or_append_left ys (y ∷ []) f q (omega arith))) (each q u f l))
+      (λ f. subst (Q n x) (sym (ap (λ (z : ℕ). get_or (ys ++ y ∷ []) z f) (sym many) ∙ get_or-append_seam ys y [] f)) here)
+      p d h e
 
   -- what holds of all that an iterator has left, after one
   pub each_less : (Q : ℕ → A → Type 0) (xs ys : List A) (x : A) (n m : ℕ) → xs ≡ x ∷ ys → ((k : ℕ) (d : A) → k < m + 1 → Q (n + k) (get_or xs k d)) → (k : ℕ) (d : A) → k < m → Q (n + 1 + k) (get_or ys k d)

@@ -1,7 +1,8 @@
 -- Together the workers ended what they made.
 use Rattle.std.proofs.Common.{◌≡◌, ◌∙◌, sym, ap, refl, subst, ℕ, zero, suc, ◌+◌, ◌-◌, ◌<◌, List, [], ◌∷◌, ◌++◌, length, map, get_or, true, arith, length-append}
-use Rattle.std.specs.Prelude.{All, sum_by, Option}
-use Rattle.std.proofs.lemmas.List.Elements.{All-append, All-map, All-cons, All-nil, All-push}
+use Rattle.std.specs.Prelude.{sum_by, Option}
+use Rattle.std.proofs.lemmas.List.Elements.{All-push}
+use Rattle.std.proofs.lemmas.List.{length-map}
 use Rattle.std.proofs.lemmas.List.Recursion.{is_sum_by}
 use Rattle.plain_cord.specs.declared.history.Entry.{Entry}
 use Rattle.plain_cord.specs.declared.deed.Deed.{Deed}
@@ -18,34 +19,19 @@ use Rattle.cord_board.specs.Views.{came_back}
 use Rattle.board_weights.specs.Weights.{weigh_cells, sum_below, Accounts}
 use Rattle.board_weights.proofs.Shares.{ends}
 use Rattle.cord_commands.specs.Accounts.{trees_of}
-use Rattle.cord_seats.specs.Chairs.{IsNew, Came, below}
+use Rattle.cord_seats.specs.Chairs.{Came, below}
 use Rattle.cord_seats.specs.Clearings.{weigh_clearings}
 use Rattle.cord_seats.proofs.Clearing.{cleared_weigh}
 use Rattle.cord_seats.proofs.Lists.{has_below}
+use Rattle.cord_seats.proofs.Places.{count-below}
 
 -- ---- new workers
-count_below : (n : ℕ) → length (numbers.below n) ≡ n
-count_below zero = refl
-count_below (suc n) = let i = count_below n in let a = length-append (numbers.below n) (n ∷ []) in omega arith
-
-count_mapped : {A B : Type 0} (f : A → B) (xs : List A) → length (map f xs) ≡ length xs
-count_mapped f [] = refl
-count_mapped f (x ∷ xs) = ap suc (count_mapped f xs)
-
 pub new-count : (size limit workers slots : ℕ) → 0 < workers → length (new_workers size limit workers slots) ≡ workers
 new-count size limit workers slots some =
     let a = length-append (map (worker_at size limit slots) (numbers.below (workers - 1))) (rest_after size limit workers slots (workers - 1) ∷ []) in
-    let m = count_mapped (worker_at size limit slots) (numbers.below (workers - 1)) in
-    let b = count_below (workers - 1) in
+    let m = length-map (numbers.below (workers - 1)) (worker_at size limit slots) in
+    let b = count-below (workers - 1) in
     omega arith
-
-pub all-new : (size limit workers slots : ℕ) → All IsNew (new_workers size limit workers slots)
-all-new size limit workers slots = All-append IsNew _ _
-    (All-map IsNew (worker_at size limit slots) (numbers.below (workers - 1)) (λ k d l. record { holds = refl; made = refl; ended = refl }))
-    (All-cons IsNew _ [] (record { holds = refl; made = refl; ended = refl }) (All-nil IsNew))
-
-pub all-new-in : (size limit workers slots : ℕ) (ws : List View) → ws ≡ new_workers size limit workers slots → All IsNew ws
-all-new-in size limit workers slots ws e = subst (λ (z : List View). All IsNew z) (sym e) (all-new size limit workers slots)
 
 -- ---- sums over workers
 abbrev total : (View → ℕ) → List View → ℕ
@@ -73,11 +59,11 @@ none-held [] e = refl
 none-held (h ∷ hs) e = absurd (omega arith)
 
 -- ---- all of them
-pub all-idle : (size : CordView → ℕ) (history : List Entry) (joined : List (ℕ × List (Deed CordView))) (cleared : List (ℕ × Option CordView)) (n : ℕ) (ws : List View) (own : View)
-    → length ws ≡ n → ((p : ℕ) (w : View) → p < n → Came joined p (get_or ws p w)) → ((p : ℕ) → p < n → came_back joined p ≡ true)
+pub all-idle : (slots : ℕ) (size : CordView → ℕ) (history : List Entry) (joined : List (ℕ × List (Deed CordView))) (cleared : List (ℕ × Option CordView)) (n : ℕ) (ws : List View) (own : View)
+    → length ws ≡ n → ((p : ℕ) (w : View) → p < n → Came slots joined p (get_or ws p w)) → ((p : ℕ) → p < n → came_back joined p ≡ true)
     → length own.holds ≡ 0 → own.made + weigh_clearings trees_of cleared ≡ own.ended → cells_in cleared ≡ below 64 → IsEnd size history (below n) joined cleared
     → IsAllIdle (ws ++ own ∷ [])
-all-idle size history joined cleared n ws own len each back holds even_own cells end =
+all-idle slots size history joined cleared n ws own len each back holds even_own cells end =
     let log = end.0 in
     let is = end.1 in
     let d : View = blank 0 0 0 0 in

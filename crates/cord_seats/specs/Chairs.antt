@@ -1,13 +1,15 @@
 -- The chairs of a run: a session's worker, its pass of the board, and what they end with.
-use Rattle.std.specs.Prelude.{◌≡◌, ◌<◌, ◌≤◌, ℕ, suc, zero, List, [], ◌∷◌, length, true, false, drop, Option, IfSome}
+use Rattle.std.specs.Prelude.{◌≡◌, ◌<◌, ◌≤◌, ◌*◌, ℕ, suc, zero, List, [], ◌∷◌, length, true, false, take, drop, Option, IfSome}
 use Rattle.std.specs.Global.{Vec}
 use Rattle.cord_commands.specs.declared.answer.Answer.{Answer}
 use Rattle.cord_commands.specs.Accounts.{trees_of}
-use Rattle.cord_seats.specs.Told.{IsToldAlone}
+use Rattle.cord_commands.specs.Slots.{slots_in, lengths_in}
+use Rattle.cord_seats.specs.Told.{IsToldAlone, externals_by}
 use Rattle.plain_cord.specs.declared.script.Command.{Command}
 use Rattle.plain_cord.specs.declared.script.Session.{Session}
 use Rattle.plain_cord.specs.declared.deed.Deed.{Deed}
 use Rattle.pool_rule.specs.Views.{View}
+use Rattle.node_pool.specs.Boxes as numbers
 use Rattle.cord_value.specs.Views.{CordView}
 use Rattle.cord_board.specs.declared.board.Board.{Board}
 use Rattle.cord_board.specs.declared.passes.BoardPass.{BoardPass}
@@ -18,38 +20,46 @@ use Rattle.board_weights.specs.Weights.{Accounts}
 use Rattle.cord_seats.specs.declared.chairs.Chair.{Chair}
 use Rattle.cord_seats.specs.Entries.{entries_for_all, entries_for_sessions}
 
--- a worker that holds nothing and made no pass
-pub record IsNew (w : View) : Type 0 where
+-- the slots of the session p, where the workers have so many: the next sixteen, as far as there are so many
+abbrev pub own_slots : ℕ → ℕ → List ℕ
+own_slots slots p = take 16 (drop (p * 16) (numbers.below slots))
+
+-- the worker of the session p, which holds nothing, made no pass and used none of its slots
+pub record IsNew (slots p : ℕ) (w : View) : Type 0 where
   pub holds : length w.holds ≡ 0
   pub made : w.made ≡ 0
   pub ended : w.ended ≡ 0
+  pub used : w.used ≡ []
+  pub unused : w.unused ≡ own_slots slots p
 
 -- the chair of the session p, before its commands
-pub record Starts {g : _} (b : Board CordView) (said : List Command) (p : ℕ) (seat : BoardPass CordView g) (w : View) : Type 0 where
+pub record Starts {g : _} (slots : ℕ) (b : Board CordView) (said : List Command) (p : ℕ) (seat : BoardPass CordView g) (w : View) : Type 0 where
   pub on : IsOn b seat
   pub session : IsSession (board_view seat)
   pub number : session_of (board_view seat) ≡ p
   pub fresh : mine_of (board_view seat) ≡ []
   pub room : entries_for_all said ≤ entries_left (board_view seat)
-  pub new : IsNew w
+  pub new : IsNew slots p w
 
--- and after them: passes made and trees got are passes ended and trees handed in
-pub record Ends {g : _} (b : Board CordView) (said : List Command) (p : ℕ) (seat : BoardPass CordView g) (w : View) (answers : Option (Vec Answer))
-    : Type 0 where
+-- and after them: passes made and trees got are passes ended and trees handed in, and its slots are used by what its answers tell
+pub record Ends {g : _} (size limit slots : ℕ) (b : Board CordView) (said : List Command) (p : ℕ) (seat : BoardPass CordView g) (w : View)
+    (answers : Option (Vec Answer)) : Type 0 where
   pub on : IsOn b seat
   pub session : IsSession (board_view seat)
   pub number : session_of (board_view seat) ≡ p
   pub holds : length w.holds ≡ 0
   pub accounts : Accounts trees_of w.made w.ended (mine_of (board_view seat))
-  pub told : IfSome answers (λ rs. IsToldAlone p said rs.items (mine_of (board_view seat)))
+  pub told : IfSome answers (λ rs. IsToldAlone size limit (length (own_slots slots p)) p said rs.items (mine_of (board_view seat)))
+  pub kept : slots_in w ≡ own_slots slots p
+  pub uses : IfSome answers (λ rs. lengths_in w ≡ externals_by said rs.items)
 
 -- the same of a chair
 module _ {P : Type 0} {g : _} where
-  abbrev pub StartsIn : Board CordView → List Command → ℕ → Chair P (BoardPass CordView g) → Type 0
-  StartsIn b said p c = Starts b said p c.seat c.worker
+  abbrev pub StartsIn : ℕ → Board CordView → List Command → ℕ → Chair P (BoardPass CordView g) → Type 0
+  StartsIn slots b said p c = Starts slots b said p c.seat c.worker
 
-  abbrev pub EndsIn : Board CordView → List Command → ℕ → Chair P (BoardPass CordView g) → Type 0
-  EndsIn b said p c = Ends b said p c.seat c.worker c.answers
+  abbrev pub EndsIn : ℕ → ℕ → ℕ → Board CordView → List Command → ℕ → Chair P (BoardPass CordView g) → Type 0
+  EndsIn size limit slots b said p c = Ends size limit slots b said p c.seat c.worker c.answers
 
 -- the numbers below n, the greatest first
 abbrev pub below : ℕ → List ℕ
@@ -72,7 +82,8 @@ pub record Joined (v : BoardView CordView) (n k : ℕ) : Type 0 where
   pub back : (p : ℕ) → p < k → came_back (joined_of v) p ≡ true
   pub away : (p : ℕ) → k ≤ p → came_back (joined_of v) p ≡ false
 
--- a worker that came back with the session p
-pub record Came (joined : List (ℕ × List (Deed CordView))) (p : ℕ) (w : View) : Type 0 where
+-- the worker that came back with the session p
+pub record Came (slots : ℕ) (joined : List (ℕ × List (Deed CordView))) (p : ℕ) (w : View) : Type 0 where
   pub holds : length w.holds ≡ 0
   pub accounts : Accounts trees_of w.made w.ended (mine_in joined p)
+  pub kept : slots_in w ≡ own_slots slots p

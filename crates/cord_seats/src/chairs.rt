@@ -1,13 +1,15 @@
 //! What each session has while it runs, and how it is given out and collected.
-ghost use Rattle.std.specs.Prelude.{◌≡◌, ◌≤◌, ◌<◌, ℕ, [], length, vec_capacity, slice_index_or, All, IfSome, Some, map};
-ghost use Rattle.cord_seats.specs.Told.{IsToldAlone};
+ghost use Rattle.std.specs.Prelude.{◌≡◌, ◌≤◌, ◌<◌, ℕ, [], length, vec_capacity, slice_index_or, IfSome, Some, map};
+ghost use Rattle.node_pool.specs.Starts.{slot_count};
+ghost use Rattle.cord_commands.specs.Slots.{lengths_in};
+ghost use Rattle.cord_seats.specs.Told.{IsToldAlone, externals_by};
 ghost use Rattle.plain_cord.specs.declared.script.Session.{Session as Session_value};
 ghost use Rattle.pool_rule.specs.Views.{View};
 ghost use Rattle.cord_board.specs.Passes.{board_view, IsOn};
 ghost use Rattle.cord_board.specs.Views.{joined_of, mine_in};
 ghost use Rattle.board_weights.specs.Weights.{Accounts};
 ghost use Rattle.cord_seats.specs.Entries.{entries_for, entries_for_all, entries_for_sessions};
-ghost use Rattle.cord_seats.specs.Chairs.{IsNew, StartsIn, EndsIn, Seated, Joined, Came};
+ghost use Rattle.cord_seats.specs.Chairs.{own_slots, IsNew, StartsIn, EndsIn, Seated, Joined, Came};
 
 use crate::board_cord::BoardCord;
 use cord_board::{Board, BoardPass};
@@ -77,7 +79,8 @@ pub fn seat_all<P: Naming>(
 ) -> Vec<BoardChair<P>>
     requires few { length sessions.now ≤ 16 }
     requires workers { length workers.items ≡ length sessions.now }
-    requires new { All IsNew workers.items }
+    requires new { (p : ℕ) (w : View) → p < length workers.items
+        → IsNew (slot_count P.workers P.table.slots) p (slice_index_or workers.items p w) }
     requires room { (room.items ≡ []) × (length sessions.now ≤ vec_capacity room) }
     requires board { IsOn board.now root.old }
     requires root { Seated (board_view root.old) sessions.now 0 }
@@ -85,7 +88,7 @@ pub fn seat_all<P: Naming>(
     ensures board { IsOn board.now root.new }
     ensures root { Seated (board_view root.new) sessions.now (length sessions.now) }
     ensures starts { (p : ℕ) (s : Session_value) (c : _) → p < length sessions.now
-        → StartsIn board.now (slice_index_or sessions.now p s).commands p (slice_index_or result.items p c) }
+        → StartsIn (slot_count P.workers P.table.slots) board.now (slice_index_or sessions.now p s).commands p (slice_index_or result.items p c) }
 {
     let mut chairs = room;
     for worker in workers {
@@ -115,15 +118,20 @@ pub fn gather<P: Naming>(
     requires board { IsOn board.now root.old }
     requires root { Seated (board_view root.old) sessions.now (length sessions.now) }
     requires ends { (p : ℕ) (s : Session_value) (c : _) → p < length sessions.now
-        → EndsIn board.now (slice_index_or sessions.now p s).commands p (slice_index_or chairs.items p c) }
+        → EndsIn P.size P.limit (slot_count P.workers P.table.slots) board.now (slice_index_or sessions.now p s).commands p
+        (slice_index_or chairs.items p c) }
     ensures len { length result.workers.items ≡ length sessions.now }
     ensures room { length result.workers.items < vec_capacity result.workers }
     ensures board { IsOn board.now root.new }
     ensures root { Joined (board_view root.new) (length sessions.now) (length sessions.now) }
     ensures answers { (length result.answers.items ≡ length sessions.now) × ((p : ℕ) (s : Session_value) (a : _) → p < length sessions.now
-        → IfSome (slice_index_or result.answers.items p a)
-        (λ rs. IsToldAlone p (slice_index_or sessions.now p s).commands rs.items (mine_in (joined_of (board_view root.new)) p))) }
-    ensures back { (p : ℕ) (w : View) → p < length sessions.now → Came (joined_of (board_view root.new)) p (slice_index_or result.workers.items p w) }
+        → IfSome (slice_index_or result.answers.items p a) (λ rs. IsToldAlone P.size P.limit
+        (length (own_slots (slot_count P.workers P.table.slots) p)) p (slice_index_or sessions.now p s).commands rs.items
+        (mine_in (joined_of (board_view root.new)) p))) }
+    ensures back { (p : ℕ) (w : View) → p < length sessions.now
+        → Came (slot_count P.workers P.table.slots) (joined_of (board_view root.new)) p (slice_index_or result.workers.items p w) }
+    ensures uses { (p : ℕ) (s : Session_value) (w : View) (a : _) → p < length sessions.now → IfSome (slice_index_or result.answers.items p a)
+        (λ rs. lengths_in (slice_index_or result.workers.items p w) ≡ externals_by (slice_index_or sessions.now p s).commands rs.items) }
 {
     let Gathered {
         mut workers,

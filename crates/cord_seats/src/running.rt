@@ -1,6 +1,7 @@
 //! All sessions of a script, side by side over one pool and one board.
-ghost use Rattle.std.specs.Prelude.{◌≡◌, ◌≤◌, ◌<◌, ◌+◌, ◌-◌, ◌^◌, ℕ, [], length, map, slice_index_or, vec_capacity, true, IfOk, All};
+ghost use Rattle.std.specs.Prelude.{◌≡◌, ◌≤◌, ◌<◌, ◌+◌, ◌-◌, ◌^◌, ℕ, [], length, map, slice_index_or, vec_capacity, true, IfOk, IfErr, All};
 ghost use Rattle.plain_cord.specs.declared.script.Session.{Session as Session_value};
+ghost use Rattle.node_pool.specs.Starts.{slot_count};
 ghost use Rattle.node_pool.specs.Opened.{opened_table, opened_numbers, opened_passes, opened_workers, opened_boxes};
 ghost use Rattle.cord_board.specs.Log.{cells_in};
 ghost use Rattle.cord_board.specs.Passes.{board_view, IsOn};
@@ -10,7 +11,12 @@ ghost use Rattle.cord_seats.specs.Clearings.{weigh_clearings};
 ghost use Rattle.cord_seats.specs.Entries.{IsRunnableSession, entries_for_sessions};
 ghost use Rattle.cord_commands.specs.Accounts.{trees_of, IsSteady};
 ghost use Rattle.script_words.specs.Forms.{IsWithin};
-ghost use Rattle.cord_seats.specs.Told.{AreAnswered};
+ghost use Rattle.cord_commands.specs.Answers.{told_by};
+ghost use Rattle.cord_steps.specs.Replies.{request_of};
+ghost use Rattle.cord_runs.specs.Runs.{IsRun};
+ghost use Rattle.cord_runs.specs.Scripts.{options_of, requests_of, boxes_of};
+ghost use Rattle.cord_seats.specs.Boxes.{handed_in, AreCalled, AreBack};
+ghost use Rattle.cord_seats.specs.Told.{AreAnswered, options_for, all_externals};
 
 use crate::board_cord::BoardCord;
 use crate::boarding::let_lie;
@@ -19,6 +25,7 @@ use crate::session::run_session;
 use cord_board::{Board, BoardItem, BoardPass, Entry};
 use cord_commands::Answer;
 use cord_port::{Gate, Memory, Releaser};
+use cord_runs::sessions_alone_make_runs;
 use node_pool::{Closed, Naming, Opened, Pool, PoolRefused, Worker};
 use plain_cord::{Script, Session};
 use std::alloc::Global;
@@ -91,9 +98,10 @@ fn run_all<R: Threads + Wait + Sync, P: Naming + Send + Sync, B: Releaser + Send
     requires len { length chairs.old ≡ length sessions.now }
     requires runnable { (p : ℕ) (s : Session_value) → p < length sessions.now → All IsWithin (slice_index_or sessions.now p s).commands }
     requires starts { (p : ℕ) (s : Session_value) (c : _) → p < length sessions.now
-        → StartsIn board.now (slice_index_or sessions.now p s).commands p (slice_index_or chairs.old p c) }
+        → StartsIn (slot_count P.workers P.table.slots) board.now (slice_index_or sessions.now p s).commands p (slice_index_or chairs.old p c) }
     ensures { (p : ℕ) (s : Session_value) (c : _) → p < length sessions.now
-        → EndsIn board.now (slice_index_or sessions.now p s).commands p (slice_index_or chairs.new p c) }
+        → EndsIn P.size P.limit (slot_count P.workers P.table.slots) board.now (slice_index_or sessions.now p s).commands p
+        (slice_index_or chairs.new p c) }
 {
     let count = chairs.len();
     if count == 0 {
@@ -102,8 +110,10 @@ fn run_all<R: Threads + Wait + Sync, P: Naming + Send + Sync, B: Releaser + Send
     let session = |i: usize, chair: &mut BoardChair<P>|
         requires len { i < length sessions.now }
         requires runnable { (s : Session_value) → All IsWithin (slice_index_or sessions.now i s).commands }
-        requires starts { (s : Session_value) → StartsIn board.now (slice_index_or sessions.now i s).commands i chair.now }
-        ensures { (s : Session_value) → EndsIn board.entry.now (slice_index_or sessions.entry.now i s).commands i chair.exit.now }
+        requires starts { (s : Session_value) → StartsIn (slot_count P.workers P.table.slots) board.now
+            (slice_index_or sessions.now i s).commands i chair.now }
+        ensures { (s : Session_value) → EndsIn P.size P.limit (slot_count P.workers P.table.slots) board.entry.now
+            (slice_index_or sessions.entry.now i s).commands i chair.exit.now }
     {
         chair.answers = run_session(
             rt,
@@ -161,8 +171,14 @@ fn run_named<R: Threads + Wait + Sync, P: Naming + Send + Sync, B: Releaser + Se
     requires passes { opened_passes opened ≡ P.limit }
     requires boxes { opened_boxes opened ≡ P.boxes }
     requires workers { (opened_workers opened ≡ P.workers) × (P.workers ≡ length sessions.now + 1) }
+    requires slots { P.table.slots ≡ length P.boxes }
     ensures left { IfOk result (λ run. run.numbers_left ≡ 0) }
     ensures answered { IfOk result (λ run. AreAnswered sessions.now (map (λ rs. rs.items) run.answers.items)) }
+    ensures run { IfOk result (λ run. IsRun {Report = Unit {0}} (options_for P.size P.limit) (boxes_of (length P.boxes))
+        (map (λ session. map request_of session.commands) sessions.now) (map (λ rs. map told_by rs.items) run.answers.items) run.history.items) }
+    ensures boxes { IfOk result (λ run. AreCalled (all_externals sessions.now (map (λ rs. rs.items) run.answers.items)) P.boxes
+        (handed_in B.calls_of B.latest_of run.returned.items)) }
+    ensures back { IfErr result (λ refused. AreBack P.boxes (handed_in B.calls_of B.latest_of refused.returned.items)) }
 {
     let (pool, mut workers) = match opened.named::<P>(alloc) {
         Ok(named) => named,
@@ -206,6 +222,7 @@ fn run_named<R: Threads + Wait + Sync, P: Naming + Send + Sync, B: Releaser + Se
     let history = board.finish(root);
     workers.push_reserved(own);
     let Closed { in_use, releasers } = pool.close(workers);
+    sessions_alone_make_runs::<()>();
     match all_answers(answers, all) {
         Some(answers) => Ok(Ran {
             answers,
@@ -230,11 +247,18 @@ pub fn run_over<R: Threads + Wait + Sync, B: Releaser + Send, G: Gate + Sync>(
     requires few { length script.now.sessions ≤ 16 }
     requires short { entries_for_sessions script.now.sessions ≤ 16384 }
     requires runnable { All IsRunnableSession script.now.sessions }
+    requires stride { script.now.stride ≡ 0 }
     requires pool { (0 < script.now.pool) × (script.now.pool ≤ 2 ^ 18) × (0 < script.now.passes) × (script.now.passes ≤ 2 ^ 18) }
     requires boxes { length releasers.items ≤ 256 }
     requires calls { All (λ b. B.calls_of b < 2 ^ 64 - 1) releasers.items }
     ensures left { IfOk result (λ run. run.numbers_left ≡ 0) }
     ensures answered { IfOk result (λ run. AreAnswered script.now.sessions (map (λ rs. rs.items) run.answers.items)) }
+    ensures run { IfOk result (λ run. IsRun {Report = Unit {0}} (options_of script.now) (boxes_of (length releasers.items)) (requests_of script.now)
+        (map (λ rs. map told_by rs.items) run.answers.items) run.history.items) }
+    ensures boxes { IfOk result (λ run. AreCalled (all_externals script.now.sessions (map (λ rs. rs.items) run.answers.items))
+        (handed_in B.calls_of B.latest_of releasers.items) (handed_in B.calls_of B.latest_of run.returned.items)) }
+    ensures back { IfErr result (λ refused. AreBack (handed_in B.calls_of B.latest_of releasers.items)
+        (handed_in B.calls_of B.latest_of refused.returned.items)) }
 {
     let sessions = script.sessions.as_slice();
     let workers = sessions.len() as u32 + 1;
@@ -257,11 +281,18 @@ pub fn run_script<R: Threads + Wait + Sync, G: Gate + Sync>(
     requires few { length script.now.sessions ≤ 16 }
     requires short { entries_for_sessions script.now.sessions ≤ 16384 }
     requires runnable { All IsRunnableSession script.now.sessions }
+    requires stride { script.now.stride ≡ 0 }
     requires pool { (0 < script.now.pool) × (script.now.pool ≤ 2 ^ 18) × (0 < script.now.passes) × (script.now.passes ≤ 2 ^ 18) }
     requires boxes { length releasers.items ≤ 256 }
     requires calls { All (λ b. calls_of b < 2 ^ 64 - 1) releasers.items }
     ensures left { IfOk result (λ run. run.numbers_left ≡ 0) }
     ensures answered { IfOk result (λ run. AreAnswered script.now.sessions (map (λ rs. rs.items) run.answers.items)) }
+    ensures run { IfOk result (λ run. IsRun {Report = Unit {0}} (options_of script.now) (boxes_of (length releasers.items)) (requests_of script.now)
+        (map (λ rs. map told_by rs.items) run.answers.items) run.history.items) }
+    ensures boxes { IfOk result (λ run. AreCalled (all_externals script.now.sessions (map (λ rs. rs.items) run.answers.items))
+        (handed_in calls_of latest_of releasers.items) (handed_in calls_of latest_of run.returned.items)) }
+    ensures back { IfErr result (λ refused. AreBack (handed_in calls_of latest_of releasers.items)
+        (handed_in calls_of latest_of refused.returned.items)) }
 {
     run_over(rt, alloc, script, gate, releasers)
 }

@@ -3,6 +3,7 @@ use Rattle.std.proofs.Common.{rules, arith, ◌≡◌, ◌+◌, ◌-◌, ◌<◌
 use Rattle.std.specs.Vec.Iter.{into_iter_items, into_iter_len}
 use Rattle.plain_cord.specs.declared.script.Session.{Session}
 use Rattle.pool_rule.specs.Views.{View}
+use Rattle.node_pool.specs.Starts.{slot_count}
 use Rattle.cord_board.specs.Passes.{board_view}
 use Rattle.cord_board.specs.declared.view.BoardView.TheVariants.{Root}
 use Rattle.cord_board.specs.Views.{has, entries_left, session_of, gave_of, joined_of, mine_of}
@@ -27,7 +28,10 @@ loop-worker-init g c =
       room = c.requires.room.1;
       on = c.requires.board;
       root = subst (λ (z : ℕ). Seated (board_view c.args.root.now) c.args.sessions.now z) (sym zero) c.requires.root;
-      new = λ k w low. subst (λ z. IsNew (get_or z k w)) (sym made.0) (c.requires.new k w (omega arith));
+      new = λ k w low.
+          let at : vec_len c.args.room + k ≡ k = omega arith in
+          subst (λ (z : ℕ). IsNew (slot_count g.P.Naming.workers g.P.Naming.table.slots) z (get_or (into_iter_items c.into_iter-worker-iterator.result) k w)) (sym at)
+          (subst (λ z. IsNew (slot_count g.P.Naming.workers g.P.Naming.table.slots) k (get_or z k w)) (sym made.0) (c.requires.new k w (omega arith)));
       starts = λ p s x low. absurd (omega arith);
     }
 
@@ -68,9 +72,10 @@ loop-worker-preserved g c =
     let left = ap entries_left split.given in
     let number = c.len-number.ensures in
     let few = c.requires.few in
-    let new : IsNew c.in-Some.worker = each_first (λ q (w : View). IsNew w) rest rest' c.in-Some.worker n m step.0 (λ k w low. inv.new k w (omega arith)) in
+    let slots = slot_count g.P.Naming.workers g.P.Naming.table.slots in
+    let new : IsNew slots n c.in-Some.worker = each_first (λ q (w : View). IsNew slots q w) rest rest' c.in-Some.worker n m step.0 (λ k w low. inv.new k w (omega arith)) in
     let grown : vec_len c.push_reserved.new.self ≡ n + 1 = c.push_reserved.ensures.len in
-    let here : Starts c.args.board.now session.commands n c.split-seat.result c.in-Some.worker = record {
+    let here : Starts slots c.args.board.now session.commands n c.split-seat.result c.in-Some.worker = record {
       on = split.board.1;
       session = session_is (board_view c.split-seat.result) _ _ _ split.given;
       number = ap session_of split.given ∙ number;
@@ -85,9 +90,9 @@ loop-worker-preserved g c =
       root = subst (λ (z : ℕ). Seated (board_view c.split-seat.new.from) sessions z) (sym grown)
           (one_seated before (board_view c.split-seat.new.from) sessions session n inv.root inside is
           (split.from ∙ ap (λ (z : ℕ × ℕ). Root (entries_left before - z.0) (z.1 ∷ gave_of before) (joined_of before) []) (λ i. (entries i, number i))));
-      new = λ k w low. each_less (λ q (w : View). IsNew w) rest rest' c.in-Some.worker n m step.0 (λ j w l. inv.new j w (omega arith)) k w low;
+      new = λ k w low. subst (λ (z : ℕ). IsNew slots (z + k) (get_or rest' k w)) (sym grown) (each_less (λ q (w : View). IsNew slots q w) rest rest' c.in-Some.worker n m step.0 (λ j w l. inv.new j w (omega arith)) k w low);
       starts = λ p s x low.
-          subst (λ z. StartsIn c.args.board.now (get_or sessions p s).commands p (get_or z p x)) (sym c.push_reserved.ensures.items)
-          (each_more (λ q y. StartsIn c.args.board.now (get_or sessions q s).commands q y) c.loop-worker.chairs.items (record { worker = c.in-Some.worker; seat = c.split-seat.result; answers = None }) n (sym c.loop-worker.chairs.ok.0) (λ q y l. inv.starts q s y l)
-          (subst (λ (z : Session). Starts c.args.board.now z.commands n c.split-seat.result c.in-Some.worker) (is ∙ any_default sessions n session s inside) here) p x (omega arith));
+          subst (λ z. StartsIn slots c.args.board.now (get_or sessions p s).commands p (get_or z p x)) (sym c.push_reserved.ensures.items)
+          (each_more (λ q y. StartsIn slots c.args.board.now (get_or sessions q s).commands q y) c.loop-worker.chairs.items (record { worker = c.in-Some.worker; seat = c.split-seat.result; answers = None }) n (sym c.loop-worker.chairs.ok.0) (λ q y l. inv.starts q s y l)
+          (subst (λ (z : Session). Starts slots c.args.board.now z.commands n c.split-seat.result c.in-Some.worker) (is ∙ any_default sessions n session s inside) here) p x (omega arith));
     }
