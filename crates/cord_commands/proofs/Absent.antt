@@ -50,10 +50,12 @@ pub edit-unset : (size limit : ℕ) (old new : Names CordView) (w : View) (a : L
 edit-unset size limit old new w a by none same res told = told-does size limit old new w (command_of a by) a (edit-answers old a by none) same res told
 
 -- no sum is set on an empty cord
-pub no-bytes-does : (size limit : ℕ) (old : Names CordView) (w : View) (a : List ℕ) (value : ℕ) (c : CordView) → named old a ≡ Some c → length c.bytes ≡ 0 → (answer : Answer) → answer ≡ Told replies.NoBytes
+pub no-bytes-does : (size limit : ℕ) (old : Names CordView) (w : View) (a : List ℕ) (value : ℕ) (c : CordView) → named old a ≡ Some c → length c.bytes ≡ 0 → (answer : Answer)
+    → answer ≡ Told replies.NoBytes
     → Does size limit old old w w (Plain (commands.SetSum a value)) answer
 no-bytes-does size limit old w a value c is none answer told = subst (Does size limit old old w w (Plain (commands.SetSum a value))) (sym told)
-    (does-told size limit old old w w (commands.SetSum a value) false replies.NoBytes (λ whole. sum-empty false (names_of old) (are-bare old whole) a value (cord_in c) (found-in old a c is) none) tt (λ q. refl) refl)
+    (does-told size limit old old w w (commands.SetSum a value) false replies.NoBytes
+    (λ whole. sum-empty false (names_of old) (are-bare old whole) a value (cord_in c) (found-in old a c is) none) tt (λ q. refl) refl)
 
 pub set-from : (old mid new : Names CordView) (a : List ℕ) (r : Result CordView CordError) (answer : Answer) → AreSame old mid → IsSet mid new a r answer → IsSet old new a r answer
 set-from old mid new a (Ok c) answer same set = (same-set old mid new a c same set.0, set.1)

@@ -43,10 +43,12 @@ abbrev pub alters_to : steps.Names → List ℕ → CordShape → Bool
 alters_to names a made = not (nat_eq made.size (shape_in (names a)).size)
 
 -- a change to another size does
-pub alters : (old : Names CordView) (a : List ℕ) (c : CordView) → named old a ≡ Some c → (F : CordShape → CordShape) (n : ℕ) → (F (cord_shape c)).size ≡ n → n ≢ length c.bytes → alters_to (names_of old) a (F (shape_in (names_of old a))) ≡ true
+pub alters : (old : Names CordView) (a : List ℕ) (c : CordView) → named old a ≡ Some c → (F : CordShape → CordShape) (n : ℕ) → (F (cord_shape c)).size ≡ n → n ≢ length c.bytes
+    → alters_to (names_of old) a (F (shape_in (names_of old a))) ≡ true
 alters old a c is F n size ne =
     let there = copied-shape old a c is in
-    ap not (ap (λ (k : ℕ). nat_eq k (shape_in (names_of old a)).size) (ap (λ (s : CordShape). (F s).size) there ∙ size) ∙ (ap (λ (s : CordShape). nat_eq n s.size) there ∙ ne_eqb n (length c.bytes) ne))
+    ap not (ap (λ (k : ℕ). nat_eq k (shape_in (names_of old a)).size) (ap (λ (s : CordShape). (F s).size) there ∙ size)
+    ∙ (ap (λ (s : CordShape). nat_eq n s.size) there ∙ ne_eqb n (length c.bytes) ne))
 
 pub changed-bytes : (x : CordState) (bytes : List ℕ) → (length bytes ≡ length x.bytes → bytes ≡ x.bytes) → (changed x bytes).bytes ≡ bytes
 changed-bytes x bytes h = cond_both (eqb (length bytes) (length x.bytes)) x (plain bytes) (λ (z : CordState). z.bytes ≡ bytes) (λ yes. sym (h (eqb-true (length bytes) (length x.bytes) yes))) (λ no'. refl)

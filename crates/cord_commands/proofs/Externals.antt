@@ -43,13 +43,15 @@ box-none s have v e at = lt-leb (s.externals + 1) s.boxes (let n = ap length e i
 module _ (size limit : ℕ) (old new : Names CordView) (v w : View) (a : List ℕ) (text : Text) where
   -- ---- nothing is done
   module _ (same : AreSame old new) (unused : w.unused ≡ v.unused) where
-    still : (answer : Answer) → ((options : Options) (p : ℕ) (s : Session) → AreFor options size limit → IsAt s old v → StepsTo {Report = NoReport} options p s (External a text) (told_by answer) s.names s.externals)
+    still : (answer : Answer) → ((options : Options) (p : ℕ) (s : Session) → AreFor options size limit → IsAt s old v
+        → StepsTo {Report = NoReport} options p s (External a text) (told_by answer) s.names s.externals)
         → IsCause size limit v w answer → Does size limit old new v w (External a text) answer
     still answer stays cause = record {
       formed = formed-same old new same;
       externals = 0;
       used = omega (arith, ap length unused);
-      step = λ options p s for at whole. subst (λ (z : steps.Names). StepsTo {Report = NoReport} options p s (External a text) (told_by answer) z (s.externals + 0)) (at.names ∙ same-names old new same)
+      step = λ options p s for at whole.
+          subst (λ (z : steps.Names). StepsTo {Report = NoReport} options p s (External a text) (told_by answer) z (s.externals + 0)) (at.names ∙ same-names old new same)
           (subst (λ (n : ℕ). StepsTo {Report = NoReport} options p s (External a text) (told_by answer) s.names n) (omega arith) (stays options p s for at));
       cause = cause;
     }
@@ -61,7 +63,8 @@ module _ (size limit : ℕ) (old new : Names CordView) (v w : View) (a : List �
     refused-as told answer is does = subst (Does size limit old new v w (External a text)) (some-answer told answer (sym is)) does
 
     module _ (j : ℕ) (later : List ℕ) (left : v.unused ≡ j ∷ later) (short : length (text_bytes text) ≤ 2147483647) where
-      pub external-refused : (x : CordError) (answer : Answer) → IsExternalRefused size limit (length (text_bytes text)) x v w → IsBalanced limit x v w → Some answer ≡ refusal_of x → Does size limit old new v w (External a text) answer
+      pub external-refused : (x : CordError) (answer : Answer) → IsExternalRefused size limit (length (text_bytes text)) x v w → IsBalanced limit x v w → Some answer ≡ refusal_of x
+          → Does size limit old new v w (External a text) answer
       external-refused (errors.NoReleaser used) answer why balanced told = refused-as Releasers answer told (no-box-does why.0)
       external-refused (errors.LengthLimit asked) answer why balanced told = absurd (omega (arith, short, why.1.0, why.1.1))
       external-refused (errors.HeightLimit height) answer why balanced told = refused-as Height answer told
@@ -84,7 +87,8 @@ module _ (size limit : ℕ) (old new : Names CordView) (v w : View) (a : List �
         let all : AreBare s.names = subst AreBare (sym at.names) (are-bare old whole) in
         let names : naming s.names a (Some (cord_in c)) ≡ names_of new = ap (λ z. naming z a (Some (cord_in c))) at.names ∙ set-naming old new a c set in
         subst (λ (z : steps.Names). StepsTo {Report = NoReport} options p s (External a text) (told_by ok) z (s.externals + 1)) names
-        (external-done options p s a text (box-left s old v j later left at) for.stride all (cord_in c) (bare-cord c formed) (sym same) (sym (ap (λ (z : CordShape). z.tree) shape)) (ap (λ (z : CordShape). sum_of z.tree) shape));
+        (external-done options p s a text (box-left s old v j later left at) for.stride all (cord_in c) (bare-cord c formed) (sym same) (sym (ap (λ (z : CordShape). z.tree) shape))
+        (ap (λ (z : CordShape). sum_of z.tree) shape));
     cause = tt;
   }
 
@@ -94,7 +98,8 @@ module _ (limit : ℕ) (v m w : View) (j : ℕ) (later : List ℕ) (left : v.unu
   pub external-even : IfOk r (λ c. passes_of c.tree ≡ 1) → AddsUp v w t b
   external-even one = go r second made balanced one
     where
-      go : (r : Result CordView CordError) → IsSteady m w (t + trees_made r) b → IfOk r (λ c. IsExternalMade limit n (root_number c.tree) v m) → IfErr r (λ x. IsBalanced limit x v m) → IfOk r (λ c. passes_of c.tree ≡ 1) → AddsUp v w t b
+      go : (r : Result CordView CordError) → IsSteady m w (t + trees_made r) b → IfOk r (λ c. IsExternalMade limit n (root_number c.tree) v m) → IfErr r (λ x. IsBalanced limit x v m)
+          → IfOk r (λ c. passes_of c.tree ≡ 1) → AddsUp v w t b
       go (Ok c) s k l one = external-then limit n (root_number c.tree) v m w t b k (steady-as m w (t + trees_of c) b (t + 1) b (ap (λ z. t + z) one) refl s)
       go (Err x) s k l one = steady-even v w t b (made-then v m w t 0 b (balanced-steady limit x v m 0 l) s)
 
@@ -125,22 +130,30 @@ module _ (limit : ℕ) (v m w : View) (j : ℕ) (later : List ℕ) (left : v.unu
       refused-by (errors.NoReleaser used) answer is = none-by Releasers answer is refl
       refused-by errors.Memory answer is = cc
 
-      go : (r : Result CordView CordError) (res : Result Answer AllocError) → IfOk r (λ c. IsExternalMade limit n (root_number c.tree) v m) → IfErr r (λ x. IsBalanced limit x v m) → IfOk res (λ answer. IsSet old new a r answer)
+      go : (r : Result CordView CordError) (res : Result Answer AllocError) → IfOk r (λ c. IsExternalMade limit n (root_number c.tree) v m) → IfErr r (λ x. IsBalanced limit x v m)
+          → IfOk res (λ answer. IsSet old new a r answer)
           → IfOk res (λ answer. Uses v w (external_by (commands.Ext a text) answer))
       go r (Err e) k l set = tt
-      go (Ok c) (Ok answer) k l set = subst by (ap (λ z. z ∷ []) long ∙ ap (external_by (commands.Ext a text)) (sym set.1)) (uses-then v m w (n ∷ []) [] (external-uses limit n (root_number c.tree) v m j later left k) (steady-uses m w _ b second))
+      go (Ok c) (Ok answer) k l set =
+          subst by (ap (λ z. z ∷ []) long ∙ ap (external_by (commands.Ext a text)) (sym set.1))
+          (uses-then v m w (n ∷ []) [] (external-uses limit n (root_number c.tree) v m j later left k) (steady-uses m w _ b second))
       go (Err x) (Ok answer) k l set = subst by (sym (refused-by x answer set.1)) (uses-then v m w [] [] (steady-uses v m 0 0 (balanced-steady limit x v m 0 l)) (steady-uses m w _ b second))
 
 -- the answer of `ext` where the session had a box
-pub external-does : (size limit : ℕ) (old new : Names CordView) (v m w : View) (a : List ℕ) (text : Text) (bytes : List ℕ) → bytes ≡ text_bytes text → (j : ℕ) (later : List ℕ) → v.unused ≡ j ∷ later → length bytes ≤ 2147483647
-    → (r : Result CordView CordError) (res : Result Answer AllocError) → IfOk r (λ c. c.bytes ≡ bytes) → IfOk r (λ c. IsTreeOf c.bytes c.tree) → IfOk r (λ c. cord_shape c ≡ cord_of_external (length bytes))
-    → IfOk r (λ c. IsExternalMade limit (length bytes) (root_number c.tree) v m) → IfErr r (λ x. IsExternalRefused size limit (length bytes) x v m) → IfErr r (λ x. IsBalanced limit x v m) → IfErr r (λ x. w ≡ m)
+pub external-does : (size limit : ℕ) (old new : Names CordView) (v m w : View) (a : List ℕ) (text : Text) (bytes : List ℕ) → bytes ≡ text_bytes text → (j : ℕ) (later : List ℕ)
+    → v.unused ≡ j ∷ later → length bytes ≤ 2147483647
+    → (r : Result CordView CordError) (res : Result Answer AllocError) → IfOk r (λ c. c.bytes ≡ bytes) → IfOk r (λ c. IsTreeOf c.bytes c.tree)
+    → IfOk r (λ c. cord_shape c ≡ cord_of_external (length bytes))
+    → IfOk r (λ c. IsExternalMade limit (length bytes) (root_number c.tree) v m) → IfErr r (λ x. IsExternalRefused size limit (length bytes) x v m) → IfErr r (λ x. IsBalanced limit x v m)
+    → IfErr r (λ x. w ≡ m)
     → w.unused ≡ m.unused → IfOk res (λ answer. IsSet old new a r answer) → IfOk res (λ answer. Does size limit old new v w (External a text) answer)
 external-does size limit old new v m w a text bytes same j later left short r (Err e) is formed shape made refused balanced stays unused set = tt
 external-does size limit old new v m w a text bytes same j later left short (Ok c) (Ok answer) is formed shape made refused balanced stays unused set =
-    subst (Does size limit old new v w (External a text)) (sym set.1) (external-set size limit old new v w a text c set.0 formed (is ∙ same) (shape ∙ ap (λ (z : List ℕ). cord_of_external (length z)) same) j later left
+    subst (Does size limit old new v w (External a text)) (sym set.1)
+    (external-set size limit old new v w a text c set.0 formed (is ∙ same) (shape ∙ ap (λ (z : List ℕ). cord_of_external (length z)) same) j later left
     (unused ∙ external-unused limit (length bytes) (root_number c.tree) v m made))
 external-does size limit old new v m w a text bytes same j later left short (Err x) (Ok answer) is formed shape made refused balanced stays unused set =
-    external-refused size limit old new v w a text set.0 (unused ∙ steady-unused v m 0 0 (balanced-steady limit x v m 0 balanced)) j later left (subst (λ (z : List ℕ). length z ≤ 2147483647) same short) x answer
+    external-refused size limit old new v w a text set.0 (unused ∙ steady-unused v m 0 0 (balanced-steady limit x v m 0 balanced)) j later left
+    (subst (λ (z : List ℕ). length z ≤ 2147483647) same short) x answer
     (subst (λ (z : View). IsExternalRefused size limit (length (text_bytes text)) x v z) (sym stays) (subst (λ (z : List ℕ). IsExternalRefused size limit (length z) x v m) same refused))
     (subst (λ (z : View). IsBalanced limit x v z) (sym stays) balanced) set.1

@@ -82,11 +82,12 @@ pub ends-other : (e : Environment) (a : List ℕ) (text : Text) → WhenOther (o
 ends-other e a text = other-found e a (e a) _ (λ c. yes-other _)
 
 -- ---- a question's step
-answer-does : (size limit : ℕ) (names : Names CordView) (w : View) (command : Command) → WhenOther (outcome (plain_names (names_of names)) command) → (answer : Answer) → IsToldBy names command answer
-    → Does size limit names names w w (Plain command) answer
+answer-does : (size limit : ℕ) (names : Names CordView) (w : View) (command : Command) → WhenOther (outcome (plain_names (names_of names)) command) → (answer : Answer)
+    → IsToldBy names command answer → Does size limit names names w w (Plain command) answer
 answer-does size limit names w command other (Told reply) told = go (outcome (plain_names (names_of names)) command) refl other told
   where
-    go : (o : Option Outcome) → outcome (plain_names (names_of names)) command ≡ o → WhenOther o → IsOutcome o (plain_names (names_of names)) reply → Does size limit names names w w (Plain command) (Told reply)
+    go : (o : Option Outcome) → outcome (plain_names (names_of names)) command ≡ o → WhenOther o → IsOutcome o (plain_names (names_of names)) reply
+        → Does size limit names names w w (Plain command) (Told reply)
     go None e other is = absurd is
     go (Some o) e other is = does-told size limit names names w w command false reply (λ whole. record { o = o; oe = e; re = sym is.1 }) (subst IsOther (sym is.1) other) (λ q. refl) refl
 answer-does size limit names w command other Releasers told = absurd told
@@ -94,10 +95,12 @@ answer-does size limit names w command other Height told = absurd told
 answer-does size limit names w command other (Cords found) told = absurd told
 answer-does size limit names w command other (Pool seen) told = absurd told
 
-pub question-does : (size limit : ℕ) (names : Names CordView) (w : View) (command said : Command) → command ≡ said → ((e : Environment) → WhenOther (outcome e said)) → (res : Result Answer AllocError) → IfOk res (λ answer. IsToldBy names said answer)
+pub question-does : (size limit : ℕ) (names : Names CordView) (w : View) (command said : Command) → command ≡ said → ((e : Environment) → WhenOther (outcome e said))
+    → (res : Result Answer AllocError) → IfOk res (λ answer. IsToldBy names said answer)
     → IfOk res (λ answer. Does size limit names names w w (Plain command) answer)
 question-does size limit names w command said is other (Err e) told = tt
-question-does size limit names w command said is other (Ok answer) told = subst (λ (z : Command). Does size limit names names w w (Plain z) answer) (sym is) (answer-does size limit names w said (other (plain_names (names_of names))) answer told)
+question-does size limit names w command said is other (Ok answer) told =
+    subst (λ (z : Command). Does size limit names names w w (Plain z) answer) (sym is) (answer-does size limit names w said (other (plain_names (names_of names))) answer told)
 
 -- ---- commands but `ext`
 own-uses : (command : Command) → request_of command ≡ Plain command → (answer : Answer) → external_by command answer ≡ []
@@ -108,6 +111,7 @@ own-uses _ own Height = refl
 own-uses _ own (Cords found) = refl
 own-uses _ own (Pool seen) = refl
 
-pub uses-none : (v w : View) (a b : ℕ) → IsSteady v w a b → (command : Command) → request_of command ≡ Plain command → (res : Result Answer AllocError) → IfOk res (λ answer. Uses v w (external_by command answer))
+pub uses-none : (v w : View) (a b : ℕ) → IsSteady v w a b → (command : Command) → request_of command ≡ Plain command → (res : Result Answer AllocError)
+    → IfOk res (λ answer. Uses v w (external_by command answer))
 uses-none v w a b s command own (Err e) = tt
 uses-none v w a b s command own (Ok answer) = subst (Uses v w) (sym (own-uses command own answer)) (steady-uses v w a b s)

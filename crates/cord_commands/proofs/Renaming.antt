@@ -42,10 +42,12 @@ pub set-beside : (old new : Names CordView) (a b : List ℕ) (c : CordView) → 
 set-beside old new a b c set apart = sym (set b ∙ ap (λ (z : Bool). if z then Some c else named old b) apart)
 
 -- two names whose cords were taken out, one after the other; the second was put back as it was, and then the first got a cord
-pub joined-set : (n0 n1 n2 n3 n4 : Names CordView) (a b : List ℕ) (d c' d' : CordView) → named n1 b ≡ Some d → IsSetTo n0 n1 a no_cord → IsSetTo n1 n2 b no_cord → IsSetTo n2 n3 b d' → IsSetTo n3 n4 a c' → d' ≡ d → IsSetTo n0 n4 a c'
+pub joined-set : (n0 n1 n2 n3 n4 : Names CordView) (a b : List ℕ) (d c' d' : CordView) → named n1 b ≡ Some d → IsSetTo n0 n1 a no_cord → IsSetTo n1 n2 b no_cord → IsSetTo n2 n3 b d'
+    → IsSetTo n3 n4 a c' → d' ≡ d → IsSetTo n0 n4 a c'
 joined-set n0 n1 n2 n3 n4 a b d c' d' two out out' back back' same' =
     let inner = set-same n1 n3 b d d' two same' (set-twice n1 n2 n3 b no_cord d' out' back) in
     set-twice n0 n1 n4 a no_cord c' out (same-set n1 n3 n4 a c' inner back')
 
-pub joined-same : (n0 n1 n2 n3 n4 : Names CordView) (a b : List ℕ) (c d c' d' : CordView) → named n0 a ≡ Some c → named n1 b ≡ Some d → IsSetTo n0 n1 a no_cord → IsSetTo n1 n2 b no_cord → IsSetTo n2 n3 b d' → IsSetTo n3 n4 a c' → c' ≡ c → d' ≡ d → AreSame n0 n4
+pub joined-same : (n0 n1 n2 n3 n4 : Names CordView) (a b : List ℕ) (c d c' d' : CordView) → named n0 a ≡ Some c → named n1 b ≡ Some d → IsSetTo n0 n1 a no_cord → IsSetTo n1 n2 b no_cord
+    → IsSetTo n2 n3 b d' → IsSetTo n3 n4 a c' → c' ≡ c → d' ≡ d → AreSame n0 n4
 joined-same n0 n1 n2 n3 n4 a b c d c' d' one two out out' back back' same same' = set-same n0 n4 a c c' one same (joined-set n0 n1 n2 n3 n4 a b d c' d' two out out' back back' same')

@@ -38,7 +38,8 @@ returns-clause-steady g c =
 
 pub returns-in_default-clause-does : goal.returns-in_default-clause-does
 returns-in_default-clause-does g c =
-    first-unset-does g.P.Naming.size g.P.Naming.limit c.args.names.now c.take_out.new.names c.args.w.now c.args.side c.args.a.now c.args.b.now (sym c.in_default.ensures.found) c.in_default.ensures.same.0 c.unset.result c.unset.ensures
+    first-unset-does g.P.Naming.size g.P.Naming.limit c.args.names.now c.take_out.new.names c.args.w.now c.args.side c.args.a.now c.args.b.now
+    (sym c.in_default.ensures.found) c.in_default.ensures.same.0 c.unset.result c.unset.ensures
 
 pub returns-in_default-take_out-clause-does : goal.returns-in_default-take_out-clause-does
 returns-in_default-take_out-clause-does g c =
@@ -50,7 +51,8 @@ returns-in_default-take_out-clause-does g c =
     let apart : bytes_eq a b ≡ false = sym c.eq.ensures ∙ c.if-eq.false in
     let none : named old b ≡ None = set-beside old c.take_out.new.names a b no_cord c.in-Some.ensures.lent apart ∙ sym c.in_default-take_out.ensures.found in
     second-unset-does g.P.Naming.size g.P.Naming.limit old c.put_back.new.names c.args.w.now c.args.side a b cord found none
-    (set-same old c.put_back.new.names a cord cord found refl (set-twice old c.take_out-2.new.names c.put_back.new.names a no_cord cord (λ q. c.in_default-take_out.ensures.same.0 q ∙ c.in-Some.ensures.lent q) c.put_back.ensures.set))
+    (set-same old c.put_back.new.names a cord cord found refl (set-twice old c.take_out-2.new.names c.put_back.new.names a no_cord cord
+    (λ q. c.in_default-take_out.ensures.same.0 q ∙ c.in-Some.ensures.lent q) c.put_back.ensures.set))
     c.unset-in_default-take_out.result c.unset-in_default-take_out.ensures
 
 pub returns-clause-does : goal.returns-clause-does
@@ -60,8 +62,10 @@ returns-clause-does g c =
     let b = c.args.b.now in
     let e = c.add_cord-added.ensures in
     let apart : bytes_eq a b ≡ false = sym c.eq.ensures ∙ c.if-eq.false in
-    join-does g.P.Naming.size g.P.Naming.limit old c.put_back-3.new.names c.args.w.now c.add_cord-added.new.w c.args.side a b c.in-Some.cord c.in-Some-take_out.other c.add_cord-added.new.cord (sym c.in-Some.ensures.found)
+    join-does g.P.Naming.size g.P.Naming.limit old c.put_back-3.new.names c.args.w.now c.add_cord-added.new.w c.args.side a b c.in-Some.cord c.in-Some-take_out.other c.add_cord-added.new.cord
+    (sym c.in-Some.ensures.found)
     (set-beside old c.take_out.new.names a b no_cord c.in-Some.ensures.lent apart ∙ sym c.in-Some-take_out.ensures.found) apart (steady-unused _ _ _ _ e.steady)
-    (joined-set old c.take_out.new.names c.take_out-2.new.names c.put_back-2.new.names c.put_back-3.new.names a b c.in-Some-take_out.other c.add_cord-added.new.cord c.add_cord-added.new.other (sym c.in-Some-take_out.ensures.found) c.in-Some.ensures.lent
+    (joined-set old c.take_out.new.names c.take_out-2.new.names c.put_back-2.new.names c.put_back-3.new.names a b c.in-Some-take_out.other c.add_cord-added.new.cord c.add_cord-added.new.other
+    (sym c.in-Some-take_out.ensures.found) c.in-Some.ensures.lent
     c.in-Some-take_out.ensures.lent c.put_back-2.ensures.set c.put_back-3.ensures.set e.kept)
     c.len.ensures.formed c.len.ensures.short c.add_cord-added.result c.changed.result e.bytes e.shape e.some e.refused e.balanced e.same c.changed.ensures.answer

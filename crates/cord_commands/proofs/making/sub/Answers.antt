@@ -29,7 +29,8 @@ returns-clause-steady g c =
 
 pub returns-in_default-clause-does : goal.returns-in_default-clause-does
 returns-in_default-clause-does g c =
-    unset-does g.P.Naming.size g.P.Naming.limit c.args.names.now c.take_out.new.names c.args.w.now (commands.Sub c.args.a.now c.args.pos c.args.n c.args.b.now) c.args.a.now _ refl (sym c.in_default.ensures.found) c.in_default.ensures.same.0 c.unset.result
+    unset-does g.P.Naming.size g.P.Naming.limit c.args.names.now c.take_out.new.names c.args.w.now (commands.Sub c.args.a.now c.args.pos c.args.n c.args.b.now) c.args.a.now _ refl
+    (sym c.in_default.ensures.found) c.in_default.ensures.same.0 c.unset.result
     c.unset.ensures
 
 pub returns-clause-does : goal.returns-clause-does
@@ -47,8 +48,11 @@ returns-clause-does g c =
     let m = c.sub-made.new.w in
     let cord = c.in-Some.cord in
     let found : named old a ≡ Some cord = sym c.in-Some.ensures.found in
-    let same : AreSame old c.put_back.new.names = set-same old c.put_back.new.names a cord c.sub-made.new.self found e.kept (set-twice old c.take_out.new.names c.put_back.new.names a no_cord c.sub-made.new.self c.in-Some.ensures.lent c.put_back.ensures.set) in
-    made-does size limit old c.set_made.new.names v m c.set_made.new.w (commands.Sub a pos n b) true (parting old a pos n b) (plain (take n (drop pos cord.bytes))) (λ all. sub-comes true (names_of old) all a pos n b (cord_in cord) (found-in old a cord found)) tt r
+    let same : AreSame old c.put_back.new.names =
+    set-same old c.put_back.new.names a cord c.sub-made.new.self found e.kept
+    (set-twice old c.take_out.new.names c.put_back.new.names a no_cord c.sub-made.new.self c.in-Some.ensures.lent c.put_back.ensures.set) in
+    made-does size limit old c.set_made.new.names v m c.set_made.new.w (commands.Sub a pos n b) true (parting old a pos n b) (plain (take n (drop pos cord.bytes)))
+    (λ all. sub-comes true (names_of old) all a pos n b (cord_in cord) (found-in old a cord found)) tt r
     c.set_made.result
     (λ whole. ok-weaker _ _ r (λ x p. p.formed) e.made)
     (ok-weaker _ _ r (λ x p. sym p) e.bytes)
