@@ -55,10 +55,10 @@ unfolding shape_of level
 at-branch l t tree = branch-kind t.0.kind t.0.more l tree.at
 
 -- ---- the last edge
-last-low : (l : ℕ) (t : Node) → IsTreeAt (suc l) t → last_place t < length (children t)
+pub last-low : (l : ℕ) (t : Node) → IsTreeAt (suc l) t → last_place t < length (children t)
 last-low l t tree = omega (arith, edges-some l t tree)
 
-last-tree : (l : ℕ) (t : Node) → IsTreeAt (suc l) t → IsTreeAt l (child_of t (last_place t))
+pub last-tree : (l : ℕ) (t : Node) → IsTreeAt (suc l) t → IsTreeAt l (child_of t (last_place t))
 last-tree l t tree = edges-trees l t tree (last_place t) t (last-low l t tree)
 
 last-shape : (t : Node) → outermost Back (shape_of t) ≡ shape_of (child_of t (last_place t))
@@ -80,7 +80,7 @@ pub leads-behind : (l : ℕ) (t : Node) → IsTreeAt l t → Leads t (places_beh
 leads-behind zero t tree = tt
 leads-behind (suc l) t tree = ((at-branch l t tree).0, last-low l t tree, leads-behind l (child_of t (last_place t)) (last-tree l t tree))
 
-room-below : (l : ℕ) (t : Node) → last_room (suc l) (shape_of t) ≡ last_room l (shape_of (child_of t (last_place t)))
+pub room-below : (l : ℕ) (t : Node) → last_room (suc l) (shape_of t) ≡ last_room l (shape_of (child_of t (last_place t)))
 unfolding last_room
 room-below l t = ap (last_room l) (last-shape t)
 
