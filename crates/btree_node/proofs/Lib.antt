@@ -6,3 +6,4 @@ pub mod OpenLaws
 pub mod GrowLaws
 pub mod AddLaws
 pub mod WidthLaws
+pub mod LoneLaws

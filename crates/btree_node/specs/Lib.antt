@@ -2,3 +2,4 @@
 pub mod Made
 pub mod Opening
 pub mod Adding
+pub mod Lone

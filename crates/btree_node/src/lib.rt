@@ -3,12 +3,14 @@
 
 mod adding;
 mod branches;
+mod lone;
 mod opening;
 mod roots;
 mod widths;
 
 pub use adding::with_node;
 pub use branches::{branch_beside, branch_of, new_branch};
+pub use lone::lone_depth;
 pub use opening::{level_of, opened, outermost, room_at};
 pub use roots::add_node;
 pub use widths::most_under;

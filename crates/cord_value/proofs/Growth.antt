@@ -45,7 +45,7 @@ use Rattle.cord_value.proofs.Shapes.{shape_with}
 added-some : (side : Side) (n : ℕ) (c : CordShape) → 0 < n → with_bytes_added false side n c ≡ inline_or (c.size + n) (bytes_step false side n c (without_sum c.tree))
 added-some side n c some = if_false (eqb n 0) c _ (ne_eqb n 0 (λ z. absurd (omega (arith, z, some))))
 
-large : (m : ℕ) (t : Shape) → 15 < m → inline_or m t ≡ shape_with m (Some t)
+pub large : (m : ℕ) (t : Shape) → 15 < m → inline_or m t ≡ shape_with m (Some t)
 large m t long = ap (shape_with m) (if_false (leb m 15) None (Some t) (lt-leb m 15 long))
 
 small : (m : ℕ) (t : Shape) → m ≤ 15 → inline_or m t ≡ shape_with m None

@@ -1,17 +1,17 @@
 -- What a shared tree at a side makes of a cord's shape, and leaves a worker with.
 use Rattle.std.proofs.Common.{ℕ, ◌≡◌, ◌+◌, ◌-◌, ◌<◌, ◌≤◌, List, [], ◌∷◌, ◌++◌, length, sum_by, refl, sym, ap, subst, ◌∙◌, arith, append-nil, inl, Bool, true, false, eqb, eq-eqb, ne_eqb, Option, Some, None}
 use Rattle.std.specs.List.{All}
-use Rattle.std.specs.Prelude.{IsSome, Result, Ok, Err, IfOk, IfErr}
+use Rattle.std.specs.Prelude.{IsSome, Result, Ok, Err, IfOk}
 use Rattle.std.proofs.lemmas.Bool.{eqb-true, le-leb, lt-leb}
 use Rattle.std.proofs.lemmas.List.{length-append}
 use Rattle.std.proofs.lemmas.List.Sums.{sum_by-append}
 use Rattle.std.proofs.lemmas.List.Elements.{All-cons, All-nil}
 use mathlib.Core.Logic.{dite}
-use native.Mathlib.Decide.{ℕ_discrete, dec_lt}
+use native.Mathlib.Decide.{ℕ_discrete}
 use Rattle.node_forest.specs.declared.side.Side.{Side}
 use Rattle.node_forest.specs.declared.side.Side.TheVariants.{Front, Back}
 use Rattle.node_forest.specs.Label.{Node, number}
-use Rattle.tree_shapes.specs.Cords.{CordShape, level_in, rooted, shared_step, with_bytes_added, with_cord_added, without_sum, NeedsHeight12}
+use Rattle.tree_shapes.specs.Cords.{CordShape, level_in, rooted, shared_step, with_bytes_added, with_cord_added, without_sum}
 use Rattle.tree_shapes.specs.Flats.{flat_shape}
 use Rattle.tree_shapes.specs.Growth.{added, beside, wrapped}
 use Rattle.tree_shapes.specs.Merge.{across, joined}
@@ -24,8 +24,7 @@ use Rattle.tree_shapes.proofs.PieceLaws.{IsPiece}
 use Rattle.tree_shapes.proofs.RoomLaws.{with_all-high, with_all-level}
 use Rattle.node_edges.specs.Text.{text}
 use Rattle.node_edges.specs.Trees.{shape_of, IsFilled, IsWellFormed}
-use Rattle.node_edges.proofs.TextLaws.{length-whole}
-use Rattle.pool_rule.specs.Gains.{Gain, no_gain, gain_then}
+use Rattle.pool_rule.specs.Gains.{no_gain, gain_then}
 use Rattle.pool_rule.specs.Notes.{Count}
 use Rattle.pool_rule.specs.Trades.{HasHolds, SameHolds, Stands, Trades}
 use Rattle.pool_rule.specs.Views.{View, sharing}
@@ -42,7 +41,7 @@ use Rattle.btree_node.proofs.GainLaws.{gained-finished, gained-shared}
 use Rattle.btree_node.proofs.GainLaws.{gained-then as nodes-then}
 use Rattle.btree_node.proofs.MadeLaws.{refused-then, took-finished}
 use Rattle.btree_edit.proofs.StepLaws.{gained-added as flat-nodes}
-use Rattle.cord_value.specs.Changes.{IsChange, IsFit, IsRefused}
+use Rattle.cord_value.specs.Changes.{IsChange, IsRefused}
 use Rattle.cord_value.specs.Grown.{inline_cord, tree_cord, IsMadeBeside}
 use Rattle.cord_value.specs.Joined.{joined_to, shared_shape}
 use Rattle.cord_value.specs.Refusals.{refusal_of, AreCountsOf, IsBalanced}

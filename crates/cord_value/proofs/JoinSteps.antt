@@ -1,5 +1,5 @@
 -- A source of few bytes that is copied, and what is taken for it.
-use Rattle.std.proofs.Common.{ℕ, ◌≡◌, ◌+◌, ◌*◌, ◌<◌, ◌≤◌, List, [], ◌∷◌, ◌++◌, length, sum_by, refl, sym, ap, subst, ◌∙◌, arith, inl, inr, Bool, true, false, eqb, leb, eq-eqb, ne_eqb, Option, Some, None}
+use Rattle.std.proofs.Common.{ℕ, ◌≡◌, ◌+◌, ◌<◌, ◌≤◌, List, [], ◌∷◌, ◌++◌, length, sum_by, refl, sym, ap, ◌∙◌, arith, inl, inr, Bool, true, false, eqb, leb, eq-eqb, ne_eqb, Option, Some, None}
 use Rattle.std.specs.Prelude.{if◌then◌else◌, option_map, Result, Ok, Err, IfOk, IfErr}
 use Rattle.std.proofs.lemmas.List.Sums.{sum_by-append}
 use mathlib.Core.Logic.{dite}
@@ -7,8 +7,7 @@ use native.Mathlib.Decide.{ℕ_discrete}
 use Rattle.node_forest.specs.declared.side.Side.{Side}
 use Rattle.node_forest.specs.Label.{Node}
 use Rattle.tree_shapes.specs.Cords.{CordShape, cord_of_bytes, with_bytes_added, with_cord_added, IsBytesAdded, IsCordAdded}
-use Rattle.tree_shapes.specs.Flats.{piece_count, new_shape}
-use Rattle.tree_shapes.specs.Shape.{Shape}
+use Rattle.tree_shapes.specs.Flats.{new_shape}
 use Rattle.tree_shapes.specs.Nodes as shapes
 use Rattle.tree_shapes.proofs.FlatLaws.{new-twice}
 use Rattle.tree_shapes.proofs.KeepLaws.{if_false, if_true}

@@ -9,3 +9,4 @@ mod SumLaws
 mod RangeLaws
 pub mod JoinLaws
 pub mod JoinSteps
+mod FillLaws

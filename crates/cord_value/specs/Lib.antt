@@ -8,3 +8,4 @@ pub mod Grown
 pub mod Externals
 pub mod Ranges
 pub mod Joined
+pub mod Filling

@@ -163,7 +163,7 @@ fn joined(alloc: Global, first: &[u8], second: &[u8], side: Side) -> Result<Vec<
 }
 
 /// The tree of a pass with bytes at a side.
-fn grow_tree<P: Naming, B: Releaser>(
+pub(crate) fn grow_tree<P: Naming, B: Releaser>(
     alloc: Global,
     pool: &Pool<P, B>,
     w: &mut Worker<P>,

@@ -5,6 +5,7 @@ mod copies;
 mod cord;
 mod cutting;
 mod external;
+mod filling;
 mod growing;
 mod inline;
 mod joining;

@@ -2,7 +2,9 @@
 #![tactic(auto)]
 
 mod capacity;
+mod filling;
 mod flat;
 
+pub use filling::grow_flat;
 pub use flat::{new_flat, room_of};
 pub use node_pool::{Edge, NodeError};

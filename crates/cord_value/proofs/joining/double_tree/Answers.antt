@@ -1,5 +1,5 @@
 -- The tree of a pass stands at its own side.
-use Rattle.std.proofs.Common.{ℕ, ◌≡◌, ◌∙◌, ◌++◌, ◌<◌, length, refl, sym, ap, subst, arith, Some, false}
+use Rattle.std.proofs.Common.{◌≡◌, ◌∙◌, ◌++◌, refl, sym, ap, subst, arith, Some, false}
 use Rattle.std.specs.Prelude.{IfErr}
 use Rattle.node_forest.specs.declared.side.Side.TheVariants.{Back}
 use Rattle.tree_shapes.specs.Cords.{CordShape, doubled}

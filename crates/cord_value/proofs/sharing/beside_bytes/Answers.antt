@@ -1,5 +1,5 @@
 -- A flat that only stands in the new tree then.
-use Rattle.std.proofs.Common.{◌≡◌, ◌<◌, [], ◌∷◌, length, arith, ap}
+use Rattle.std.proofs.Common.{[], ◌∷◌, length, arith, ap}
 use Rattle.tree_shapes.specs.Merge.{joined}
 use Rattle.tree_shapes.specs.Shape.{level}
 use Rattle.node_edges.specs.Trees.{shape_of}

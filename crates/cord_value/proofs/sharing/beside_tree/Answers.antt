@@ -1,5 +1,5 @@
 -- What stands below the root, with another tree at a side.
-use Rattle.std.proofs.Common.{◌≡◌, ◌∙◌, ◌+◌, ◌≤◌, refl, sym, ap, subst, arith, Some}
+use Rattle.std.proofs.Common.{◌≡◌, ◌∙◌, refl, ap, subst, arith, Some}
 use Rattle.std.specs.Prelude.{IfErr}
 use Rattle.tree_shapes.specs.Cords.{without_sum}
 use Rattle.tree_shapes.specs.Shape.{Shape, level}

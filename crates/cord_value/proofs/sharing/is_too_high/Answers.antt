@@ -1,7 +1,6 @@
 -- Whether a flat needs a higher tree than there is.
-use Rattle.std.proofs.Common.{◌≡◌, ◌∙◌, ◌<◌, length, refl, sym, arith}
+use Rattle.std.proofs.Common.{◌≡◌, length, arith}
 use Rattle.tree_shapes.specs.Merge.{across}
-use Rattle.tree_shapes.specs.Room.{room_at}
 use Rattle.tree_shapes.specs.Shape.{level}
 use Rattle.node_edges.specs.Trees.{shape_of}
 use Rattle.cord_value.proofs.Growth.{some-there}

@@ -1,5 +1,5 @@
 -- A tree drawn from its pass, and one with another at a side in its place.
-use Rattle.std.proofs.Common.{ℕ, ◌≡◌, ◌∙◌, ◌+◌, ◌≤◌, ◌<◌, length, refl, sym, ap, subst, arith, Some}
+use Rattle.std.proofs.Common.{◌≡◌, ◌+◌, ◌≤◌, length, refl, sym, subst, arith, Some}
 use Rattle.node_forest.specs.Label.{Node}
 use Rattle.tree_shapes.specs.Cords.{without_sum}
 use Rattle.node_edges.specs.Text.{text}

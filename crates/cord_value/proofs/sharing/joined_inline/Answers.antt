@@ -1,5 +1,5 @@
 -- An inline cord gets a pass of its own for the tree.
-use Rattle.std.proofs.Common.{◌≡◌, ◌+◌, ◌≤◌, length, refl, sym, subst, arith, None}
+use Rattle.std.proofs.Common.{refl, sym, subst, arith, None}
 use Rattle.std.proofs.lemmas.List.Elements.{All-nil}
 use Rattle.node_edges.specs.Text.{text}
 use Rattle.node_edges.proofs.TextLaws.{length-whole}

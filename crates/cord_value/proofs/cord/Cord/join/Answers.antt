@@ -1,8 +1,8 @@
 -- Nothing added changes nothing, too much is refused first, few bytes are copied, and a tree is shared.
-use Rattle.std.proofs.Common.{ℕ, ◌≡◌, ◌∙◌, ◌<◌, ◌≤◌, length, ap, sym, subst, refl, inl, arith}
+use Rattle.std.proofs.Common.{◌≡◌, ◌∙◌, ◌<◌, length, ap, sym, subst, arith}
 use Rattle.std.specs.Prelude.{IfErr}
 use Rattle.std.proofs.lemmas.List.Elements.{All-nil}
-use Rattle.tree_shapes.specs.Cords.{CordShape, IsBytesAdded, IsCordAdded, with_bytes_added, with_cord_added}
+use Rattle.tree_shapes.specs.Cords.{CordShape, IsBytesAdded, IsCordAdded}
 use Rattle.tree_shapes.specs.Growth.{beside}
 use Rattle.node_edges.proofs.TextLaws.{length-whole}
 use Rattle.cord_value.specs.Changes.{IsRefused}
@@ -11,7 +11,6 @@ use Rattle.cord_value.specs.Views.{CordView, cord_shape}
 use Rattle.cord_value.specs.declared.refusals.CordError.TheVariants.{LengthLimit}
 use Rattle.cord_value.proofs.Balances.{balanced-nothing}
 use Rattle.cord_value.proofs.Changes.{changed-none}
-use Rattle.cord_value.proofs.Growth.{err-weaker}
 use Rattle.cord_value.proofs.JoinLaws.{ok-same}
 use Rattle.cord_value.proofs.JoinSteps.{copied-added, copied-same, err-always}
 use Rattle.cord_value.proofs.cord.Cord.join.Goals as goal

@@ -1,5 +1,5 @@
 -- The other cord's tree is drawn while this one is made anew, and fills its pass again.
-use Rattle.std.proofs.Common.{ℕ, ◌≡◌, ◌∙◌, ◌<◌, length, false, refl, sym, ap, subst, arith}
+use Rattle.std.proofs.Common.{◌≡◌, ◌∙◌, false, refl, sym, ap, subst, arith}
 use Rattle.tree_shapes.specs.Cords.{CordShape, with_cord_added}
 use Rattle.tree_shapes.specs.Growth.{beside}
 use Rattle.node_edges.specs.Text.{text}
