@@ -9,3 +9,4 @@ pub mod WholeLaws
 pub mod FeedLaws
 pub mod FeedSteps
 pub mod CauseLaws
+pub mod StrideLaws

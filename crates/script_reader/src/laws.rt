@@ -38,6 +38,11 @@ pub fn spelled_script_is_within_limits()
     ensures { (bytes : List ℕ) (s : Script_value) → Spells bytes s → IsWithinLimits s }
 {}
 
+/// A script that is spelled has no stride, since no line that begins with that word is built.
+pub fn spelled_script_has_no_stride()
+    ensures { (bytes : List ℕ) (s : Script_value) → Spells bytes s → s.stride ≡ 0 }
+{}
+
 /// Each cause comes where a line has it, apart from what a reader looks at first: a byte that isn't shown, a first word that is none, one that
 /// isn't built, a line out of place, an option or a session's name for the second time, one session and one command too many.
 pub fn causes_are_told()

@@ -82,7 +82,7 @@ setting_words = (codes "pool", setting_verbs.Pool) ∷ (codes "passes", setting_
 
 -- The first words of lines that aren't built yet. A word that leaves this list is read as the table has it.
 abbrev pub unbuilt_words : List (List ℕ)
-unbuilt_words = codes "stride" ∷ codes "ext" ∷ codes "snap" ∷ codes "walk" ∷ codes "unsnap" ∷ []
+unbuilt_words = codes "stride" ∷ codes "snap" ∷ codes "walk" ∷ codes "unsnap" ∷ []
 
 abbrev pub setting_first : Option SettingVerb → FirstWord
 setting_first None = firsts.Unknown

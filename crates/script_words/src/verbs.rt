@@ -140,7 +140,6 @@ fn is_unbuilt(word: &[u8]) -> bool
     ensures { result ≡ list_any (bytes_eq word.now) unbuilt_words }
 {
     word == b"stride".as_slice()
-        || word == b"ext".as_slice()
         || word == b"snap".as_slice()
         || word == b"walk".as_slice()
         || word == b"unsnap".as_slice()
