@@ -1,11 +1,15 @@
--- What the source gave before a call that failed was given too; and a fault that was told.
+-- What the source gave before a call that failed was given too; a fault that was told; and a script that has no stride.
 use Rattle.std.proofs.Common.{◌≡◌, ℕ, List, ◌++◌, Option, Result, Ok, Err, subst}
-use Rattle.std.specs.Prelude.{OnErr}
+use Rattle.std.specs.Prelude.{IfOk, OnErr}
+use Rattle.plain_cord.specs.declared.script.Script.{Script}
 use Rattle.cord_port.specs.Texts.{Gave}
 use Rattle.cord_port.proofs.Consuming.{gave_more}
 use Rattle.script_words.specs.Causes.{word_of_cause}
+use Rattle.script_reader.specs.declared.fault.ReadRefused.{ReadRefused}
 use Rattle.script_reader.specs.declared.fault.ScriptError.{ScriptError}
 use Rattle.script_reader.specs.Faults.{IsFirstFault}
+use Rattle.script_reader.specs.ScriptSpelling.{Spells}
+use Rattle.script_reader.proofs.StrideLaws.{spelled_free}
 use Rattle.report_text.specs.Outputs.{refusal_line}
 use Rattle.cord_sessions.specs.Endings.{Told}
 use Rattle.cord_sessions.specs.Parts.{TellsFault}
@@ -26,3 +30,8 @@ tells bytes a b f g e line word first told same named = record {
   first = first;
   told = subst (λ (w : List ℕ). Told a b f g (refusal_line e.line w)) named (subst (λ (l : ℕ). Told a b f g (refusal_line l word)) same told);
 }
+
+-- a script that was read has no stride
+pub is-free : (bytes : List ℕ) (r : Result Script ReadRefused) → IfOk r (λ s. Spells bytes s) → IfOk r (λ s. s.stride ≡ 0)
+is-free bytes (Ok s) h = spelled_free bytes s h
+is-free bytes (Err e) h = tt

@@ -4,3 +4,7 @@ pub mod Counts
 pub mod EndingLaws
 pub mod Through
 pub mod FeedingLaws
+pub mod TellingLaws
+pub mod BoxLaws
+pub mod KeptLaws
+pub mod RunSays

@@ -39,13 +39,15 @@ module _ (o : Outside) (kept : List ℕ) (held : Option (List ℕ)) (faults : �
     held_after = append_known held kept;
     write_faults = o.write_faults;
     write_faults_after = faults;
+    boxes = o.boxes;
+    boxes_after = o.boxes_after;
   }
 
   read-through : (bytes : List ℕ) → IsRead buffered bytes → IsRead o bytes
   read-through bytes read = record { gave = read.gave; end = read.end; within = read.within; faultless = read.faultless }
 
   ran-through : (script : Script) (books : List Book) (history : List Entry) → IsRunOf buffered script books history → IsRunOf o script books history
-  ran-through script books history ran = record { bytes = ran.bytes; read = read-through ran.bytes ran.read; spelled = ran.spelled; run = ran.run }
+  ran-through script books history ran = record { bytes = ran.bytes; read = read-through ran.bytes ran.read; spelled = ran.spelled; run = ran.run; called = ran.called }
 
   module _ (more : Extends o.held held) where
     done-through : (command : Asked) (after : Ending) → IsDone command buffered → IsEmptied kept held faults after o.held_after o.write_faults_after → SaysOf command o Done
@@ -64,6 +66,7 @@ module _ (o : Outside) (kept : List ℕ) (held : Option (List ℕ)) (faults : �
       spelled = done.spelled;
       written = through_whole o.held held o.held_after kept _ done.written rest.whole;
       faultless = rest.faultless ∙ done.faultless;
+      kept = done.kept;
     }
 
     -- the run was done, and the sink failed in the bytes that were kept
@@ -83,6 +86,7 @@ module _ (o : Outside) (kept : List ℕ) (held : Option (List ℕ)) (faults : �
       spelled = done.spelled;
       failed = subst (λ (f : ℕ). Rose f o.write_faults_after) done.faultless rest.rose;
       part = through_part o.held held o.held_after kept _ more (whole_part (append_known o.held []) (append_known held kept) _ done.written) rest.part;
+      kept = done.kept;
     }
 
     left-part : IsLeft held faults o.held_after o.write_faults_after → AppendsPart held o.held_after kept
@@ -105,6 +109,7 @@ module _ (o : Outside) (kept : List ℕ) (held : Option (List ℕ)) (faults : �
       spelled = failed.spelled;
       failed = subst (λ (f : ℕ). Rose o.write_faults f) (sym rest.1) failed.failed;
       part = through_part o.held held o.held_after kept _ more failed.part (left-part rest);
+      kept = failed.kept;
     }
 
     line-through : (line : List ℕ) → Told (append_known o.held []) (append_known held kept) o.write_faults faults line → Told held o.held_after faults o.write_faults_after kept → Told o.held o.held_after o.write_faults o.write_faults_after line
@@ -120,15 +125,17 @@ module _ (o : Outside) (kept : List ℕ) (held : Option (List ℕ)) (faults : �
       first = says.first;
       no_script = says.no_script;
       told = line-through _ says.told rest.1;
+      kept = says.kept;
     })
     command-through command Usage after says rest = absurd says
-    command-through command ReadFault after says rest = subst (λ (e : Ending). SaysOf command o e) (sym rest.0) (record { failed = says.failed; within = says.within; told = line-through _ says.told rest.1 })
+    command-through command ReadFault after says rest = subst (λ (e : Ending). SaysOf command o e) (sym rest.0) (record { failed = says.failed; within = says.within; told = line-through _ says.told rest.1; kept = says.kept })
     command-through command WriteFault after says rest = subst (λ (e : Ending). SaysOf command o e) (sym rest.0) (failed-through command says rest.1)
     command-through command Memory after says rest = subst (λ (e : Ending). SaysOf command o e) (sym rest.0) (record {
       within = says.within;
       read_faultless = says.read_faultless;
       held = rest.1.0 ∙ through_same o.held held kept more says.held;
       write_faultless = rest.1.1 ∙ says.write_faultless;
+      back = says.back;
     })
     command-through command TooLong after says rest = subst (λ (e : Ending). SaysOf command o e) (sym rest.0) (record {
       bytes = says.bytes;
@@ -136,10 +143,11 @@ module _ (o : Outside) (kept : List ℕ) (held : Option (List ℕ)) (faults : �
       read = says.read;
       faultless = says.faultless;
       told = line-through _ says.told rest.1;
+      kept = says.kept;
     })
 
     usage-through : IsUsage buffered → Told held o.held_after faults o.write_faults_after kept → IsUsage o
-    usage-through says rest = record { left = says.left; given = says.given; faultless = says.faultless; told = line-through _ says.told rest }
+    usage-through says rest = record { left = says.left; given = says.given; faultless = says.faultless; told = line-through _ says.told rest; kept = says.kept }
 
     asked-through : (words : List (List ℕ)) (ending after : Ending) → SaysOfAsked words buffered ending → Empties ending kept held faults after o.held_after o.write_faults_after → SaysOfAsked words o after
     asked-through words ending after says rest = record { command = says.command; asked = says.asked; says = command-through says.command ending after says.says rest }

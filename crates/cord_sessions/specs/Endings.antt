@@ -1,4 +1,4 @@
--- How the program ends, and what each ending says of the source and the sink.
+-- How the program ends, and what each ending says of the source, the sink and the boxes of releasers.
 use Rattle.std.specs.Prelude.{◌≡◌, ℕ, ◌+◌, ◌≤◌, List, length, codes, Option}
 use Rattle.std.specs.List.{sum_by}
 use Rattle.std.specs.Io.KnownBytes.{Appends, IsAtEnd}
@@ -6,9 +6,9 @@ use Rattle.plain_cord.specs.declared.script.Script.{Script}
 use Rattle.plain_cord.specs.declared.reply.Book.{Book}
 use Rattle.plain_cord.specs.declared.history.Entry.{Entry}
 use Rattle.plain_cord.specs.declared.limits.TheConstants.{MOST_BYTES, MOST_SHOWN}
-use Rattle.plain_cord.specs.Runs.{IsPlainRun}
 use Rattle.cord_port.specs.Causes.{Rose}
 use Rattle.cord_port.specs.Texts.{Gave, AppendsPart}
+use Rattle.pool_rule.specs.Pools.{Handed}
 use Rattle.script_words.specs.Causes.{word_of_cause}
 use Rattle.script_reader.specs.declared.fault.ScriptError.{ScriptError}
 use Rattle.script_reader.specs.ScriptSpelling.{Spells}
@@ -16,6 +16,9 @@ use Rattle.script_reader.specs.Faults.{IsFirstFault}
 use Rattle.report_text.specs.Replies.{line_of}
 use Rattle.report_text.specs.Outputs.{output_text, refusal_line}
 use Rattle.report_text.specs.Summaries.{summary_line}
+use Rattle.cord_runs.specs.Boxes.{externals_in}
+use Rattle.cord_runs.specs.Scripts.{IsTreeRun}
+use Rattle.cord_seats.specs.Boxes.{AreCalled, AreBack}
 use Rattle.cord_sessions.specs.declared.asked.Asked.{Asked}
 use Rattle.cord_sessions.specs.declared.asked.Asked.TheVariants.{Run, Check}
 use Rattle.cord_sessions.specs.Asks.{Asks}
@@ -46,8 +49,8 @@ status_of WriteFault = 4
 status_of Memory = 5
 status_of TooLong = 6
 
--- the source and the sink, before the call and after it: what is left and what is held, where it is told, how many
--- bytes the source has given, and how often each has failed
+-- the source, the sink and the boxes of releasers, before the call and after it: what is left and what is held, where it is told, how many
+-- bytes the source has given, how often each has failed, and what each box tells of its releases
 pub record Outside : Type 0 where
   pub left : Option (List ℕ)
   pub left_after : Option (List ℕ)
@@ -59,10 +62,13 @@ pub record Outside : Type 0 where
   pub held_after : Option (List ℕ)
   pub write_faults : ℕ
   pub write_faults_after : ℕ
+  pub boxes : List Handed
+  pub boxes_after : List Handed
 
--- what is seen of a source from its state before to that after, and of a sink
-abbrev pub outside : {S K : Type 0} → (S → Option (List ℕ)) → (S → ℕ) → (S → ℕ) → (K → Option (List ℕ)) → (K → ℕ) → S → S → K → K → Outside
-outside left given read_faults held write_faults source source_after sink sink_after = record {
+-- what is seen of a source from its state before to that after, of a sink, and of the boxes
+abbrev pub outside : {S K : Type 0} → (S → Option (List ℕ)) → (S → ℕ) → (S → ℕ) → (K → Option (List ℕ)) → (K → ℕ) → S → S → K → K
+    → List Handed → List Handed → Outside
+outside left given read_faults held write_faults source source_after sink sink_after boxes boxes_after = record {
   left = left source;
   left_after = left source_after;
   given = given source;
@@ -73,6 +79,8 @@ outside left given read_faults held write_faults source source_after sink sink_a
   held_after = held sink_after;
   write_faults = write_faults sink;
   write_faults_after = write_faults sink_after;
+  boxes = boxes;
+  boxes_after = boxes_after;
 }
 
 -- the most bytes of a script, the most bytes of a cord, and the most bytes of a cord that an answer shows
@@ -92,12 +100,14 @@ pub record Told (held held_after : Option (List ℕ)) (faults faults_after : ℕ
   pub whole : ¬ (Rose faults faults_after) → Appends held held_after line
   pub later : faults ≤ faults_after
 
--- the source had a script, whose run gave these books and this history
+-- The source had a script, and these are the books and the history of a run of it over trees with so many boxes. Each external called the
+-- next box of its session once.
 pub record IsRunOf (o : Outside) (script : Script) (books : List Book) (history : List Entry) : Type 0 where
   pub bytes : List ℕ
   pub read : IsRead o bytes
   pub spelled : Spells bytes script
-  pub run : IsPlainRun script.sessions books history
+  pub run : IsTreeRun script (length o.boxes) books history
+  pub called : AreCalled (externals_in script.sessions books) o.boxes o.boxes_after
 
 -- the script was run, and the whole text of its books and its history written without a fault
 pub record IsRunDone (o : Outside) : Type 0 where
@@ -125,6 +135,7 @@ pub record IsCheckDone (o : Outside) : Type 0 where
   pub spelled : Spells bytes script
   pub written : Appends o.held o.held_after (check_line script)
   pub faultless : o.write_faults_after ≡ o.write_faults
+  pub kept : o.boxes_after ≡ o.boxes
 
 -- the bytes spell a script, and the sink failed in that line
 pub record IsCheckUnwritten (o : Outside) : Type 0 where
@@ -134,6 +145,7 @@ pub record IsCheckUnwritten (o : Outside) : Type 0 where
   pub spelled : Spells bytes script
   pub failed : Rose o.write_faults o.write_faults_after
   pub part : AppendsPart o.held o.held_after (check_line script)
+  pub kept : o.boxes_after ≡ o.boxes
 
 -- the bytes are no script, and the line of the first fault was told
 pub record IsRefused (o : Outside) : Type 0 where
@@ -143,12 +155,14 @@ pub record IsRefused (o : Outside) : Type 0 where
   pub first : IsFirstFault bytes fault
   pub no_script : (script : Script) → Spells bytes script → ⊥
   pub told : Told o.held o.held_after o.write_faults o.write_faults_after (refusal_line fault.line (word_of_cause fault.cause))
+  pub kept : o.boxes_after ≡ o.boxes
 
 -- the source failed before its end
 pub record IsReadFault (o : Outside) : Type 0 where
   pub failed : Rose o.read_faults o.read_faults_after
   pub within : o.given_after ≤ o.given + MOST_SCRIPT
   pub told : Told o.held o.held_after o.write_faults o.write_faults_after read_fault_line
+  pub kept : o.boxes_after ≡ o.boxes
 
 -- one byte more than the limit was read, of bytes that the source had
 pub record IsTooLong (o : Outside) : Type 0 where
@@ -157,13 +171,20 @@ pub record IsTooLong (o : Outside) : Type 0 where
   pub read : o.given_after ≡ o.given + (MOST_SCRIPT + 1)
   pub faultless : o.read_faults_after ≡ o.read_faults
   pub told : Told o.held o.held_after o.write_faults o.write_faults_after too_long_line
+  pub kept : o.boxes_after ≡ o.boxes
+
+-- the boxes after a command that lacked memory: those of a run may have been called, each once
+abbrev pub ComeBack : Asked → List Handed → List Handed → Type 0
+ComeBack Run boxes boxes_after = AreBack boxes boxes_after
+ComeBack Check boxes boxes_after = boxes_after ≡ boxes
 
 -- memory ran out, and nothing was written
-pub record IsOutOfMemory (o : Outside) : Type 0 where
+pub record IsOutOfMemory (command : Asked) (o : Outside) : Type 0 where
   pub within : o.given_after ≤ o.given + MOST_SCRIPT
   pub read_faultless : o.read_faults_after ≡ o.read_faults
   pub held : o.held_after ≡ o.held
   pub write_faultless : o.write_faults_after ≡ o.write_faults
+  pub back : ComeBack command o.boxes o.boxes_after
 
 -- the words are no command: nothing was read
 pub record IsUsage (o : Outside) : Type 0 where
@@ -171,6 +192,7 @@ pub record IsUsage (o : Outside) : Type 0 where
   pub given : o.given_after ≡ o.given
   pub faultless : o.read_faults_after ≡ o.read_faults
   pub told : Told o.held o.held_after o.write_faults o.write_faults_after usage_line
+  pub kept : o.boxes_after ≡ o.boxes
 
 abbrev pub IsDone : Asked → Outside → Type 0
 IsDone Run o = IsRunDone o
@@ -187,7 +209,7 @@ SaysOf command o Refused = IsRefused o
 SaysOf command o Usage = ⊥
 SaysOf command o ReadFault = IsReadFault o
 SaysOf command o WriteFault = IsUnwritten command o
-SaysOf command o Memory = IsOutOfMemory o
+SaysOf command o Memory = IsOutOfMemory command o
 SaysOf command o TooLong = IsTooLong o
 
 -- the words ask for a command, of which the ending says this

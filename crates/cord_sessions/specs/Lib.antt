@@ -3,3 +3,4 @@ pub mod Emptying
 pub mod Endings
 pub mod Parts
 pub mod Feeding
+pub mod Telling

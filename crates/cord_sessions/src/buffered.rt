@@ -1,7 +1,8 @@
 //! The top call with a buffer before its sink.
-ghost use Rattle.std.specs.Prelude.{◌≡◌, map, string_bytes};
+ghost use Rattle.std.specs.Prelude.{◌≡◌, ◌≤◌, ◌<◌, ◌-◌, ◌^◌, length, map, string_bytes, All};
 ghost use Rattle.cord_port.specs.Texts.{Extends};
 ghost use Rattle.cord_port.specs.Buffers.{sink_below, kept_bytes};
+ghost use Rattle.cord_seats.specs.Boxes.{handed_in};
 ghost use Rattle.cord_sessions.specs.declared.ending.Ending.{Ending as Ending_value};
 ghost use Rattle.cord_sessions.specs.Endings.{Says, LimitsStand, outside, status_of};
 ghost use Rattle.cord_sessions.specs.Emptying.{Empties};
@@ -32,9 +33,11 @@ pub fn run_buffered<R: Threads + Wait + Sync, S: Source, K: Sink + Drop, G: Gate
     gate: &G,
     releasers: Vec<Box<dyn Releaser + Send>>,
 ) -> Served<K>
+    requires boxes { length releasers.items ≤ 256 }
+    requires calls { All (λ b. calls_of b < 2 ^ 64 - 1) releasers.items }
     ensures ending { (ending : Ending_value) × (result.finish.status ≡ status_of ending) × Says (map string_bytes words.now)
-        (outside S.left S.given S.faults K.held K.faults source.old source.new sink result.sink) ending }
-    ensures returned { result.finish.returned ≡ releasers }
+        (outside S.left S.given S.faults K.held K.faults source.old source.new sink result.sink
+        (handed_in calls_of latest_of releasers.items) (handed_in calls_of latest_of result.finish.returned.items)) ending }
     ensures limits { LimitsStand }
 {
     serve::<R, S, K, G, Brand>(rt, alloc, words, source, sink, gate, releasers)
@@ -51,9 +54,11 @@ fn serve<R: Threads + Wait + Sync, S: Source, K: Sink + Drop, G: Gate + Sync, N:
     releasers: Vec<Box<dyn Releaser + Send>>,
 ) -> Served<K>
     requires begun { N.begun ≡ K.held sink }
+    requires boxes { length releasers.items ≤ 256 }
+    requires calls { All (λ b. calls_of b < 2 ^ 64 - 1) releasers.items }
     ensures ending { (ending : Ending_value) × (result.finish.status ≡ status_of ending) × Says (map string_bytes words.now)
-        (outside S.left S.given S.faults K.held K.faults source.old source.new sink result.sink) ending }
-    ensures returned { result.finish.returned ≡ releasers }
+        (outside S.left S.given S.faults K.held K.faults source.old source.new sink result.sink
+        (handed_in calls_of latest_of releasers.items) (handed_in calls_of latest_of result.finish.returned.items)) ending }
 {
     let made: Result<BufferedSink<K, N>, K> = BufferedSink::new(alloc, sink);
     match made {

@@ -1,13 +1,17 @@
 //! A script that was accepted, run.
-ghost use Rattle.std.specs.Prelude.{◌≡◌, IfOk, MatchResult};
-ghost use Rattle.plain_cord.specs.Runs.{IsPlainRun};
+ghost use Rattle.std.specs.Prelude.{◌≡◌, ◌≤◌, ◌<◌, ◌-◌, ◌^◌, length, All, IfOk, IfErr};
+ghost use Rattle.cord_runs.specs.Boxes.{externals_in};
+ghost use Rattle.cord_runs.specs.Scripts.{IsTreeRun};
+ghost use Rattle.cord_seats.specs.Boxes.{handed_in, AreCalled, AreBack};
 ghost use Rattle.script_reader.specs.Limits.{IsWithinLimits};
 
-use board_sessions::run_sessions;
+use crate::telling::books_of;
 use cord_board::Entry;
-use cord_port::{Gate, Memory, Releaser};
+use cord_port::{Gate, Releaser};
+use cord_runs::told_runs_are_tree_runs;
+use cord_seats::Ran;
 use plain_cord::{Book, Script};
-use std::alloc::Global;
+use std::alloc::{AllocError, Global};
 use std::sync::Wait;
 use std::thread::Threads;
 
@@ -27,8 +31,9 @@ pub struct RunRefused {
     pub returned: Vec<Box<dyn Releaser + Send>>,
 }
 
-/// Runs an accepted script, its sessions side by side over one board, each in a thread of its own. A session whose thread can't
-/// be started is run by the caller. Cords are plain byte strings, so no number of the pool is in use, and no box is called.
+/// Runs an accepted script that has no stride on cords over a new pool, its sessions side by side over one board, each in a thread of
+/// its own. A session whose thread can't be started is run by the caller. The session i, counted from 0, owns the boxes 16 * i to
+/// 16 * i + 15, as far as there are so many. Each box that an external of it used was called once, with the external's length.
 pub fn run_script<R: Threads + Wait + Sync, G: Gate + Sync>(
     rt: &R,
     alloc: Global,
@@ -37,19 +42,37 @@ pub fn run_script<R: Threads + Wait + Sync, G: Gate + Sync>(
     releasers: Vec<Box<dyn Releaser + Send>>,
 ) -> Result<Run, RunRefused>
     requires accepted { IsWithinLimits script.now }
-    ensures run { IfOk result (λ run. IsPlainRun script.now.sessions run.books.items run.history.items) }
+    requires stride { script.now.stride ≡ 0 }
+    requires boxes { length releasers.items ≤ 256 }
+    requires calls { All (λ b. calls_of b < 2 ^ 64 - 1) releasers.items }
+    ensures run { IfOk result (λ run. IsTreeRun script.now (length releasers.items) run.books.items run.history.items) }
     ensures left { IfOk result (λ run. run.numbers_left ≡ 0) }
-    ensures returned { MatchResult result (λ run. run.returned ≡ releasers) (λ refused. refused.returned ≡ releasers) }
+    ensures called { IfOk result (λ run. AreCalled (externals_in script.now.sessions run.books.items)
+        (handed_in calls_of latest_of releasers.items) (handed_in calls_of latest_of run.returned.items)) }
+    ensures back { IfErr result (λ refused. AreBack (handed_in calls_of latest_of releasers.items)
+        (handed_in calls_of latest_of refused.returned.items)) }
 {
-    match run_sessions(rt, alloc, script.sessions.as_slice(), gate) {
-        Ok((books, history)) => Ok(Run {
-            books,
-            history,
-            numbers_left: 0,
-            returned: releasers,
-        }),
-        Err(Memory) => Err(RunRefused {
-            returned: releasers,
-        }),
+    let ran = match cord_seats::run_script(rt, alloc, script, gate, releasers) {
+        Ok(ran) => ran,
+        Err(cord_seats::RunRefused { returned }) => return Err(RunRefused { returned }),
+    };
+    let Ran {
+        answers,
+        history,
+        numbers_left,
+        returned,
+    } = ran;
+    match books_of(alloc, answers) {
+        Ok(books) => {
+            // A law: what cords answered is a run of the script.
+            told_runs_are_tree_runs();
+            Ok(Run {
+                books,
+                history,
+                numbers_left,
+                returned,
+            })
+        }
+        Err(AllocError) => Err(RunRefused { returned }),
     }
 }

@@ -1,5 +1,5 @@
 //! A script whose bytes were fed: run and written, or counted.
-ghost use Rattle.std.specs.Prelude.{◌≡◌, ℕ, ◌≤◌, ◌^◌, ◌<◌, ◌⊎◌, List, length, Err, IfOk, OnOk, OnErr};
+ghost use Rattle.std.specs.Prelude.{◌≡◌, ℕ, ◌≤◌, ◌-◌, ◌^◌, ◌<◌, ◌⊎◌, List, length, All, Err, IfOk, OnOk, OnErr};
 ghost use Rattle.std.specs.List.{sum_by};
 ghost use Rattle.script_words.specs.Causes.{word_of_cause};
 ghost use Rattle.script_reader.specs.declared.fault.ScriptError.{ScriptError as ScriptError_value};
@@ -13,6 +13,8 @@ ghost use Rattle.cord_sessions.specs.Endings.{Told, check_line};
 ghost use Rattle.std.specs.Io.KnownBytes.{Appends};
 ghost use Rattle.cord_port.specs.Causes.{Rose};
 ghost use Rattle.cord_port.specs.Texts.{AppendsPart};
+ghost use Rattle.pool_rule.specs.Pools.{Handed};
+ghost use Rattle.cord_seats.specs.Boxes.{handed_in};
 ghost use Rattle.cord_sessions.specs.Parts.{SaysOfBytes};
 
 use crate::ending::{Ended, Ending};
@@ -20,7 +22,7 @@ use crate::running::{Run, RunRefused, run_script};
 use cord_port::{Failed, Gate, Releaser, Sink};
 use plain_cord::{Script, Session};
 use report_text::{write_refusal, write_run, write_summary};
-use run_laws::plain_runs_within_limits_are_printable;
+use run_laws::tree_runs_within_limits_are_printable;
 use script_reader::{ReadRefused, ScriptFeed};
 use std::alloc::Global;
 use std::sync::Wait;
@@ -40,6 +42,7 @@ fn finish_script(feed: ScriptFeed) -> Result<Script, ReadRefused>
     ensures found { (bytes : List ℕ) → HasGot feed bytes → IfOk result (λ s. Spells bytes s) }
     ensures first { (bytes : List ℕ) (e : ScriptError_value) → HasGot feed bytes → result ≡ Err (ReadRefused.Script e) → IsFirstFault bytes e }
     ensures limits { IfOk result IsWithinLimits }
+    ensures unsampled { IfOk result (λ s. s.stride ≡ 0) }
 {
     feed.finish()
 }
@@ -53,9 +56,11 @@ pub fn run_fed<R: Threads + Wait + Sync, K: Sink, G: Gate + Sync>(
     gate: &G,
     releasers: Vec<Box<dyn Releaser + Send>>,
 ) -> Ended
-    requires { (bytes : List ℕ) × HasGot feed bytes }
-    ensures says { (bytes : List ℕ) → HasGot feed bytes → SaysOfBytes asked.Run bytes (K.held sink.old) (K.held sink.new) (K.faults sink.old) (K.faults sink.new) result.ending }
-    ensures returned { result.returned ≡ releasers }
+    requires fed { (bytes : List ℕ) × HasGot feed bytes }
+    requires boxes { length releasers.items ≤ 256 }
+    requires calls { All (λ b. calls_of b < 2 ^ 64 - 1) releasers.items }
+    ensures { (bytes : List ℕ) → HasGot feed bytes → SaysOfBytes asked.Run bytes (K.held sink.old) (K.held sink.new) (K.faults sink.old) (K.faults sink.new)
+        (handed_in calls_of latest_of releasers.items) (handed_in calls_of latest_of result.returned.items) result.ending }
 {
     let script = match finish_script(feed) {
         Ok(script) => script,
@@ -76,7 +81,7 @@ pub fn run_fed<R: Threads + Wait + Sync, K: Sink, G: Gate + Sync>(
     match run_script(rt, alloc, &script, gate, releasers) {
         Ok(run) => {
             // A law: what a run gives can be written.
-            plain_runs_within_limits_are_printable();
+            tree_runs_within_limits_are_printable();
             let ending = write_out(&script, &run, sink);
             let Run { returned, .. } = run;
             Ended { ending, returned }
@@ -108,7 +113,8 @@ fn write_out<K: Sink>(script: &Script, run: &Run, sink: &mut K) -> Ending
 /// Tells how much the script has that the feed got, or its first fault.
 pub fn check_fed<K: Sink>(feed: ScriptFeed, sink: &mut K) -> Ending
     requires { (bytes : List ℕ) × HasGot feed bytes }
-    ensures { (bytes : List ℕ) → HasGot feed bytes → SaysOfBytes asked.Check bytes (K.held sink.old) (K.held sink.new) (K.faults sink.old) (K.faults sink.new) result }
+    ensures { (bytes : List ℕ) (boxes : List Handed) → HasGot feed bytes
+        → SaysOfBytes asked.Check bytes (K.held sink.old) (K.held sink.new) (K.faults sink.old) (K.faults sink.new) boxes boxes result }
 {
     let script = match finish_script(feed) {
         Ok(script) => script,

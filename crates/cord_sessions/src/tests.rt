@@ -1,6 +1,6 @@
 //! Scripts whose whole output is known from the rules of the language, and the ends of a call when the outside fails.
 use super::*;
-use cord_port::{Failed, Gate, LogReleaser, MemorySink, MemorySource, Releaser, Sink};
+use cord_port::{CountReleaser, Failed, Gate, MemorySink, MemorySource, Releaser, Sink};
 use std::alloc::{AllocError, Global};
 use std::process::Abort;
 use std::sync::Wait;
@@ -540,7 +540,7 @@ fn other_words_get_the_usage_line_and_releasers_come_back(rt: HostRuntime) -> Re
         }
         let mut boxes: Vec<Box<dyn Releaser + Send>> = Vec::new(rt.alloc());
         for _ in 0..2 {
-            boxes.push(Box::new(rt.alloc(), LogReleaser::new(rt.alloc(), 4)?)?)?;
+            boxes.push(Box::new(rt.alloc(), CountReleaser::new())?)?;
         }
         let gate = CountingGate::new();
         let mut source = source_of(rt.alloc(), HELLO)?;
@@ -676,4 +676,172 @@ fn sessions_run_side_by_side(rt: HostRuntime) -> Result<(), Fail> {
         b"session a\nok\n1\nsession b\nok\n1\nhistory 0\npool 0 of 65536\n".as_slice()
     );
     Ok(())
+}
+
+// Runs a script with so many boxes, holds its output against what is wanted, and gives what each box tells of its releases.
+fn releases<R: Threads + Wait + Abort + Sync>(
+    rt: &R,
+    alloc: Global,
+    script: &str,
+    count: u8,
+    wanted: &str,
+) -> Result<Vec<(u64, Option<u64>)>, Fail> {
+    let mut boxes: Vec<Box<dyn Releaser + Send>> = Vec::new(alloc);
+    for _ in 0..count {
+        boxes.push(Box::new(alloc, CountReleaser::new())?)?;
+    }
+    let words = vec![in alloc; String::from_str(alloc, "run")?]?;
+    let gate = CountingGate::new();
+    let mut source = source_of(alloc, script)?;
+    let mut sink = MemorySink::new(alloc, 1024, 1024, Vec::new(alloc))?;
+    let finish = run_program(rt, alloc, &words, &mut source, &mut sink, &gate, boxes);
+    assert_eq!(rt; sink.bytes(), wanted.as_bytes());
+    assert_eq!(rt; finish.status, 0);
+    let mut told = Vec::new(alloc);
+    for releaser in &finish.returned {
+        told.push((releaser.calls(), releaser.latest()))?;
+    }
+    Ok(told)
+}
+
+#[test]
+fn externals_call_the_boxes_of_their_session_in_order(rt: HostRuntime) -> Result<(), Fail> {
+    let script = r#"cords 1
+session a
+ext x "a"*16
+ext y "b"*20
+ext x "c"*100
+print y
+end
+session b
+ext z "sixteen letters."
+ext z "d"*5000
+copy z y
+ext z "e"*33
+size y
+end
+"#;
+    let wanted = r#"session a
+ok
+ok
+ok
+"bbbbbbbbbbbbbbbbbbbb"
+session b
+ok
+ok
+ok
+ok
+5000
+history 0
+pool 0 of 65536
+"#;
+    let told = releases(&rt, rt.alloc(), script, 40, wanted)?;
+    assert_eq!(rt; told.len(), 40);
+    let lengths = [16, 20, 100, 16, 5000, 33];
+    for (i, releases) in told.iter().enumerate() {
+        let release = match i {
+            0..=2 => Some(lengths[i]),
+            16..=18 => Some(lengths[i - 13]),
+            _ => None,
+        };
+        assert_eq!(rt; *releases, (u64::from(release.is_some()), release));
+    }
+    Ok(())
+}
+
+#[test]
+fn an_external_is_released_once_with_its_own_length(rt: HostRuntime) -> Result<(), Fail> {
+    let script = r#"cords 1
+session a
+ext e "x"*100
+sub e 10 50 p
+clear e
+clear p
+end
+"#;
+    let wanted = "session a\nok\nok\nok\nok\nhistory 0\npool 0 of 65536\n";
+    let told = releases(&rt, rt.alloc(), script, 2, wanted)?;
+    assert_eq!(rt; told.as_slice(), [(1, Some(100)), (0, None)].as_slice());
+    Ok(())
+}
+
+#[test]
+fn the_seventeenth_external_finds_no_box(rt: HostRuntime) -> Result<(), Fail> {
+    let mut script = String::from_str(rt.alloc(), "cords 1\nsession a\n")?;
+    let mut wanted = String::from_str(rt.alloc(), "session a\n")?;
+    for _ in 0..16 {
+        script.push_str("ext x \"a\"*20\n")?;
+        wanted.push_str("ok\n")?;
+    }
+    script.push_str("ext x \"b\"*30\nprint x\nend\n")?;
+    wanted.push_str("! releasers\n\"aaaaaaaaaaaaaaaaaaaa\"\nhistory 0\npool 0 of 65536\n")?;
+    let told = releases(&rt, rt.alloc(), script.as_str(), 17, wanted.as_str())?;
+    assert_eq!(rt; told.len(), 17);
+    for (i, releases) in told.iter().enumerate() {
+        let wanted = if i < 16 { (1, Some(20)) } else { (0, None) };
+        assert_eq!(rt; *releases, wanted);
+    }
+    let script = "cords 1\nsession a\next x \"a\"*20\next x \"b\"*30\nend\n";
+    let wanted = "session a\nok\n! releasers\nhistory 0\npool 0 of 65536\n";
+    let told = releases(&rt, rt.alloc(), script, 1, wanted)?;
+    assert_eq!(rt; told.as_slice(), [(1, Some(20))].as_slice());
+    Ok(())
+}
+
+// Runs a session behind options, whose commands stand before their answers, and holds its output against them.
+fn hold_behind<R: Threads + Wait + Abort + Sync>(
+    rt: &R,
+    alloc: Global,
+    options: &str,
+    lines: &str,
+    pool: &str,
+) -> Result<(), Fail> {
+    let mut script = format!(in alloc; "cords 1\n{options}session a\n")?;
+    let mut wanted = String::from_str(alloc, "session a\n")?;
+    for line in lines.lines() {
+        if let Some((command, answer)) = line.split_once(" => ") {
+            script.push_str(command)?;
+            script.push_str("\n")?;
+            wanted.push_str(answer)?;
+            wanted.push_str("\n")?;
+        }
+    }
+    script.push_str("end\n")?;
+    wanted.push_str("history 0\n")?;
+    wanted.push_str(pool)?;
+    releases(rt, alloc, script.as_str(), 1, wanted.as_str())?;
+    Ok(())
+}
+
+#[test]
+fn want_of_a_number_or_a_pass_is_refused_and_leaves_the_name(rt: HostRuntime) -> Result<(), Fail> {
+    let eight = r#"let a "a"*16 => ok
+let b "b"*16 => ok
+let c "c"*16 => ok
+let d "d"*16 => ok
+let e "e"*16 => ok
+let f "f"*16 => ok
+let g "g"*16 => ok
+let h "h"*16 => ok
+let i "i" => ok
+let i "i"*16 => ! pool 8
+print i => "i"
+append h "h"*5000 => ! pool 8
+print h => "hhhhhhhhhhhhhhhh"
+clear a => ok
+let i "i"*16 => ok
+print i => "iiiiiiiiiiiiiiii""#;
+    hold_behind(&rt, rt.alloc(), "pool 8\n", eight, "pool 0 of 8\n")?;
+    let two = r#"let a "a"*16 => ok
+let b "b"*16 => ok
+let c "c"*16 => ! cords 2
+print c => ! unset c
+copy a d => ! cords 2
+ext d "d"*16 => ! cords 2
+let c "c" => ok
+append c "c"*15 => ! cords 2
+print c => "c"
+clear a => ok
+append c "c"*15 => ok"#;
+    hold_behind(&rt, rt.alloc(), "passes 2\n", two, "pool 0 of 65536\n")
 }

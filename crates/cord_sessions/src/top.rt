@@ -1,5 +1,7 @@
 //! The top call.
-ghost use Rattle.std.specs.Prelude.{◌≡◌, map, string_bytes};
+ghost use Rattle.std.specs.Prelude.{◌≡◌, ◌≤◌, ◌<◌, ◌-◌, ◌^◌, [], List, length, map, string_bytes, All};
+ghost use Rattle.pool_rule.specs.Pools.{Handed};
+ghost use Rattle.cord_seats.specs.Boxes.{handed_in};
 ghost use Rattle.cord_sessions.specs.declared.ending.Ending.{Ending as Ending_value};
 ghost use Rattle.cord_sessions.specs.Endings.{Says, SaysOf, Told, LimitsStand, outside, status_of};
 ghost use Rattle.cord_sessions.specs.Parts.{TellsUnread};
@@ -53,9 +55,10 @@ fn run_to_end<R: Threads + Wait + Sync, S: Source, K: Sink, G: Gate + Sync>(
     gate: &G,
     releasers: Vec<Box<dyn Releaser + Send>>,
 ) -> Ended
-    ensures says { SaysOf Run
-        (outside S.left S.given S.faults K.held K.faults source.old source.new sink.old sink.new) result.ending }
-    ensures returned { result.returned ≡ releasers }
+    requires boxes { length releasers.items ≤ 256 }
+    requires calls { All (λ b. calls_of b < 2 ^ 64 - 1) releasers.items }
+    ensures { SaysOf Run (outside S.left S.given S.faults K.held K.faults source.old source.new sink.old sink.new
+        (handed_in calls_of latest_of releasers.items) (handed_in calls_of latest_of result.returned.items)) result.ending }
 {
     match feed_source(alloc, source) {
         Ok(feed) => run_fed(rt, alloc, feed, sink, gate, releasers),
@@ -67,8 +70,8 @@ fn run_to_end<R: Threads + Wait + Sync, S: Source, K: Sink, G: Gate + Sync>(
 }
 
 fn check_to_end<S: Source, K: Sink>(alloc: Global, source: &mut S, sink: &mut K) -> Ending
-    ensures { SaysOf Check
-        (outside S.left S.given S.faults K.held K.faults source.old source.new sink.old sink.new) result }
+    ensures { (boxes : List Handed) → SaysOf Check
+        (outside S.left S.given S.faults K.held K.faults source.old source.new sink.old sink.new boxes boxes) result }
 {
     match feed_source(alloc, source) {
         Ok(feed) => check_fed(feed, sink),
@@ -79,7 +82,7 @@ fn check_to_end<S: Source, K: Sink>(alloc: Global, source: &mut S, sink: &mut K)
 /// Tells whether the bytes of the source are a script: its answer is the exit status.
 pub fn check_script<S: Source, K: Sink>(alloc: Global, source: &mut S, sink: &mut K) -> u8
     ensures { (ending : Ending_value) × (result ≡ status_of ending) × SaysOf Check
-        (outside S.left S.given S.faults K.held K.faults source.old source.new sink.old sink.new) ending }
+        (outside S.left S.given S.faults K.held K.faults source.old source.new sink.old sink.new [] []) ending }
 {
     check_to_end(alloc, source, sink).status()
 }
@@ -94,9 +97,10 @@ pub fn do_asked<R: Threads + Wait + Sync, S: Source, K: Sink, G: Gate + Sync>(
     gate: &G,
     releasers: Vec<Box<dyn Releaser + Send>>,
 ) -> Ended
-    ensures says { Says (map string_bytes words.now)
-        (outside S.left S.given S.faults K.held K.faults source.old source.new sink.old sink.new) result.ending }
-    ensures returned { result.returned ≡ releasers }
+    requires boxes { length releasers.items ≤ 256 }
+    requires calls { All (λ b. calls_of b < 2 ^ 64 - 1) releasers.items }
+    ensures { Says (map string_bytes words.now) (outside S.left S.given S.faults K.held K.faults source.old source.new sink.old sink.new
+        (handed_in calls_of latest_of releasers.items) (handed_in calls_of latest_of result.returned.items)) result.ending }
 {
     match command_of(words) {
         Some(Asked::Run) => run_to_end(rt, alloc, source, sink, gate, releasers),
@@ -118,7 +122,8 @@ pub fn do_asked<R: Threads + Wait + Sync, S: Source, K: Sink, G: Gate + Sync>(
 }
 
 /// Does what the words ask for. `run` reads a script from the source to its end, line by line as its bytes come, runs it,
-/// and writes its text to the sink; `check` tells how much the script has. The boxes come back as they were.
+/// and writes its text to the sink; `check` tells how much the script has. The boxes come back in their order: those that an external of
+/// the script used were called once, with its length, and the others are as they were.
 pub fn run_program<R: Threads + Wait + Sync, S: Source, K: Sink, G: Gate + Sync>(
     rt: &R,
     alloc: Global,
@@ -128,9 +133,11 @@ pub fn run_program<R: Threads + Wait + Sync, S: Source, K: Sink, G: Gate + Sync>
     gate: &G,
     releasers: Vec<Box<dyn Releaser + Send>>,
 ) -> Finish
+    requires boxes { length releasers.items ≤ 256 }
+    requires calls { All (λ b. calls_of b < 2 ^ 64 - 1) releasers.items }
     ensures ending { (ending : Ending_value) × (result.status ≡ status_of ending) × Says (map string_bytes words.now)
-        (outside S.left S.given S.faults K.held K.faults source.old source.new sink.old sink.new) ending }
-    ensures returned { result.returned ≡ releasers }
+        (outside S.left S.given S.faults K.held K.faults source.old source.new sink.old sink.new
+        (handed_in calls_of latest_of releasers.items) (handed_in calls_of latest_of result.returned.items)) ending }
     ensures limits { LimitsStand }
 {
     let Ended { ending, returned } = do_asked(rt, alloc, words, source, sink, gate, releasers);

@@ -1,19 +1,39 @@
--- The sessions of an accepted script can be run.
-use Rattle.std.proofs.Common.{◌≤◌, sym, subst, List, arith}
-use Rattle.std.specs.List.{All}
-use Rattle.plain_cord.specs.declared.script.Session.{Session}
-use Rattle.board_sessions.specs.Chairs.{entries_for_sessions}
-use Rattle.board_sessions.specs.Runnable.{IsRunnableSession}
+-- The sessions of an accepted script can be run, and the books tell what they answered.
+use Rattle.std.proofs.Common.{◌∙◌, sym, ap, List, length, map, Some, Vec, Global, arith}
+use Rattle.plain_cord.specs.declared.reply.Book.{Book}
+use Rattle.plain_cord.specs.declared.reply.Reply.{Reply}
+use Rattle.cord_runs.specs.Boxes.{externals_in}
+use Rattle.cord_commands.specs.declared.answer.Answer.{Answer}
+use Rattle.cord_sessions.proofs.BoxLaws.{called-back, called-same}
 use Rattle.cord_sessions.proofs.Sounds.{runnable, few-needed}
+use Rattle.cord_sessions.proofs.TellingLaws.{told-books, all-told}
 use Rattle.cord_sessions.proofs.running.run_script.Goals as goal
 
-pub run_sessions-requires-clause-short : goal.run_sessions-requires-clause-short
-run_sessions-requires-clause-short g c κs within =
-    let sessions = c.args.script.now.sessions in
-    let need = few-needed sessions in
+pub run_script-requires-clause-short : goal.run_script-requires-clause-short
+run_script-requires-clause-short g c κs within =
+    let need = few-needed c.args.script.now.sessions in
     let short = c.requires.accepted.short in
-    let all : entries_for_sessions sessions ≤ 16384 = omega arith in
-    subst (λ (z : List Session). entries_for_sessions z ≤ 16384) (sym c.as_slice.ensures) all
+    omega arith
 
-pub run_sessions-requires-clause-runnable : goal.run_sessions-requires-clause-runnable
-run_sessions-requires-clause-runnable g c κs within = subst (λ (z : List Session). All IsRunnableSession z) (sym c.as_slice.ensures) (runnable c.args.script.now.sessions c.requires.accepted.sessions)
+pub run_script-requires-clause-runnable : goal.run_script-requires-clause-runnable
+run_script-requires-clause-runnable g c κs within = runnable c.args.script.now.sessions c.requires.accepted.sessions
+
+pub returns-in-Ok-books_of-clause-run : goal.returns-in-Ok-books_of-clause-run
+returns-in-Ok-books_of-clause-run g c =
+    let all = c.in-Ok.ran.answers.items in
+    let told = c.in-Ok-books_of.ensures in
+    let same = told-books {V = Vec Answer Global} (λ v. v.items) all
+    ∙ ap (λ (books : List Book). map (λ (book : Book). map (λ (reply : Reply). Some reply) book.replies) books) (sym told) in
+    c.told_runs_are_tree_runs.ensures c.args.script.now (length c.args.releasers.items) c.in-Ok-books_of.books.items _ c.in-Ok.ran.history.items
+    c.in-Ok.ensures.run same
+
+pub returns-in-Ok-books_of-clause-called : goal.returns-in-Ok-books_of-clause-called
+returns-in-Ok-books_of-clause-called g c =
+    let all = c.in-Ok.ran.answers.items in
+    let told = c.in-Ok-books_of.ensures in
+    let sessions = c.args.script.now.sessions in
+    let same = ap (λ (books : List Book). externals_in sessions books) told ∙ all-told {V = Vec Answer Global} (λ v. v.items) sessions all in
+    called-same c.in-Ok.ensures.boxes (sym same)
+
+pub returns-in-Err-books_of-clause-back : goal.returns-in-Err-books_of-clause-back
+returns-in-Err-books_of-clause-back g c = called-back _ _ _ c.in-Ok.ensures.boxes

@@ -1,6 +1,5 @@
 -- The fault that was told is the first one.
-use Rattle.std.proofs.Common.{◌≡◌}
-use Rattle.script_words.specs.Causes.{word_of_cause}
+use Rattle.std.proofs.Common.{refl}
 use Rattle.cord_sessions.proofs.FeedingLaws.{tells}
 use Rattle.cord_sessions.proofs.script_run.check_fed.Goals as goal
 
@@ -11,6 +10,9 @@ returns-in-Err-Script g c =
     let named = c.word.ensures in
     let held = g.K.Sink.held in
     let faults = g.K.Sink.faults in
-    λ bytes got.
-    let first = c.in-Err-Script.ensures.first bytes c.in-Err-Script.error got (cc) in
-    tells bytes (held c.args.sink.now) (held c.tell_refusal.new.sink) (faults c.args.sink.now) (faults c.tell_refusal.new.sink) c.in-Err-Script.error _ c.word.result.now first c.tell_refusal.ensures (cc) (cc)
+    λ bytes boxes got.
+    let first = c.in-Err-Script.ensures.first bytes c.in-Err-Script.error got (cc) in (
+      tells bytes (held c.args.sink.now) (held c.tell_refusal.new.sink) (faults c.args.sink.now) (faults c.tell_refusal.new.sink)
+          c.in-Err-Script.error _ c.word.result.now first c.tell_refusal.ensures (cc) (cc),
+      refl,
+    )
