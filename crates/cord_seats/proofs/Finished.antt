@@ -1,15 +1,15 @@
 -- The run and the boxes at its end, by what the sessions came back with.
-use Rattle.std.proofs.Common.{◌≡◌, ◌∙◌, sym, ap, refl, subst, ℕ, ◌+◌, ◌<◌, List, [], ◌∷◌, ◌++◌, length, map, get_or, true, arith, Option, Some}
+use Rattle.std.proofs.Common.{◌≡◌, ◌∙◌, sym, ap, refl, subst, ℕ, ◌+◌, ◌<◌, List, [], ◌∷◌, ◌++◌, length, map, get_or, length-append, true, arith, Option, Some}
 use Rattle.std.specs.Prelude.{IfSome}
 use Rattle.std.specs.Global.{Vec}
-use Rattle.std.proofs.lemmas.List.{length-map}
+use Rattle.std.proofs.lemmas.List.{length-map, get_or-map, get_or_append_left}
 use Rattle.plain_cord.specs.declared.script.Session.{Session}
 use Rattle.plain_cord.specs.declared.history.Entry.{Entry}
 use Rattle.plain_cord.specs.declared.deed.Deed.{Deed}
 use Rattle.plain_cord.specs.Deeds.{of_session, mapped_deed, entry_of, empty_cells, IsLegal}
 use Rattle.pool_rule.specs.Pools.{Handed}
 use Rattle.pool_rule.specs.Views.{View}
-use Rattle.node_pool.specs.Closes.{AreReturned}
+use Rattle.node_pool.specs.Closes.{IsAllIdle, AreCountsWithin, AreTakenByWorkers, AreReturned}
 use Rattle.node_pool.specs.Starts.{slot_count}
 use Rattle.cord_board.specs.Rule.{IsEnd}
 use Rattle.cord_board.specs.Views.{came_back, mine_in}
@@ -29,6 +29,7 @@ use Rattle.cord_commands.specs.Does.{NoReport}
 use Rattle.cord_commands.specs.Slots.{lengths_in}
 use Rattle.cord_commands.specs.Views.{cord_in}
 use Rattle.cord_seats.specs.Boxes.{AreCalled}
+use Rattle.cord_seats.specs.Causes.{IsShown, AreShown}
 use Rattle.cord_seats.specs.Chairs.{own_slots, Came, below}
 use Rattle.cord_seats.specs.Told.{IsToldAlone, options_for, externals_by, all_externals}
 use Rattle.cord_seats.proofs.Answered.{all-there}
@@ -76,6 +77,33 @@ module _ (sessions : List Session) (found : List (Option (Vec Answer))) (books :
       (all_answered size limit (boxes_of handed) sessions books joined count alone)
       (run_legal size limit (boxes_of handed) sessions books joined count alone end.0 back end.1)
       (each_alone size limit (boxes_of handed) sessions books joined count alone end.0 back end.1))
+
+  pub finished-shown : (size limit workers boxes handed : ℕ) (ws closed : List View) (own : View) → workers ≡ length sessions + 1 → boxes ≡ handed
+      → length ws ≡ length sessions → closed ≡ ws ++ own ∷ []
+      → ((p : ℕ) (w : View) (a : Option (Vec Answer)) → p < length sessions
+      → IfSome (get_or found p a) (λ rs. IsShown size limit (length (own_slots (slot_count workers boxes) p)) (get_or ws p w) rs.items))
+      → IsAllIdle closed → AreTakenByWorkers closed → AreCountsWithin closed
+      → AreShown size limit (boxes_of handed) (map (λ (rs : Vec Answer). rs.items) books)
+  finished-shown size limit workers boxes handed ws closed own more same len are shown idle taken counts =
+      let items : Vec Answer → List Answer = λ rs. rs.items in
+      let many : length (map items books) ≡ length sessions = length-map books items ∙ count in
+      record {
+        workers = closed;
+        count = ap length are ∙ (length-append ws (own ∷ []) ∙ ap (λ (n : ℕ). n + 1) (len ∙ sym many));
+        idle = idle;
+        taken = taken;
+        counts = counts;
+        each = λ p w low.
+            let inside : p < length sessions = omega (arith, many, low) in
+            let a = element books p (omega (arith, count, inside)) in
+            let worker : get_or closed p w ≡ get_or ws p w = ap (λ (z : List View). get_or z p w) are ∙ get_or_append_left ws (own ∷ []) w p (omega (arith, len, inside)) in
+            let book : get_or (map items books) p [] ≡ (get_or books p a).items = get_or-map items books p a [] (omega (arith, count, inside)) in
+            let slots = own-boxes workers boxes (length sessions) p more inside ∙ ap (λ (z : ℕ). boxes_of z p) same in
+            let here : IsShown size limit (length (own_slots (slot_count workers boxes) p)) (get_or ws p w) (get_or books p a).items =
+            subst (λ (o : Option (Vec Answer)). IfSome o (λ rs. IsShown size limit (length (own_slots (slot_count workers boxes) p)) (get_or ws p w) rs.items))
+            (all-there found books is p a) (shown p w (Some a) inside) in
+            subst (λ (z : ℕ × View × List Answer). IsShown size limit z.0 z.1 z.2) (λ i. (slots i, sym worker i, sym book i)) here;
+      }
 
   pub finished-boxes : (slots in_use : ℕ) (ws closed : List View) (own : View) (before after : List Handed) → length ws ≡ length sessions
       → ((p : ℕ) (w : View) → p < length sessions → Came slots joined p (get_or ws p w))

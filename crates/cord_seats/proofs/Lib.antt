@@ -1,6 +1,7 @@
 pub mod Answered
 pub mod Apart
 pub mod Boxes
+pub mod Causes
 pub mod Clearing
 pub mod Copies
 pub mod Counts

@@ -68,7 +68,7 @@ module _ (size limit n slots : ℕ) (ws : List View) (own : View) (are : ws ++ o
 
   -- the first of them are those of the sessions
   pub new-at : (p : ℕ) (w : View) → p < n → IsNew slots p (get_or ws p w)
-  new-at p w low = subst (IsNew slots p) (sym here) (record { holds = refl; made = refl; ended = refl; used = refl; unused = refl })
+  new-at p w low = subst (IsNew slots p) (sym here) (record { holds = refl; made = refl; ended = refl; taken = refl; full = refl; counts = refl; used = refl; unused = refl })
     where
       here : get_or ws p w ≡ worker_at size limit slots p
       here = ap (λ (z : List View). get_or z p w) parts.0

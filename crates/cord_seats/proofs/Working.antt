@@ -9,9 +9,11 @@ use Rattle.plain_cord.specs.declared.script.Command.TheVariants as commands
 use Rattle.plain_cord.specs.Deeds.{deed, mapped_deed}
 use Rattle.plain_cord.specs.Outcomes.{asked_action}
 use Rattle.pool_rule.specs.Views.{View}
+use Rattle.node_pool.specs.Passes.{counted, uncounted}
 use Rattle.ordered_names.specs.declared.names.Names.{Names}
 use Rattle.ordered_names.specs.Named.{named}
 use Rattle.cord_value.specs.Views.{CordView, no_cord, IsTreeOf}
+use Rattle.cord_value.proofs.Balances.{balanced-limit}
 use Rattle.cord_steps.specs.Answers.{Request, Plain}
 use Rattle.cord_steps.specs.Answers as steps
 use Rattle.cord_steps.specs.Boarding.{given, gave_up}
@@ -28,7 +30,7 @@ use Rattle.cord_commands.specs.declared.answer.Answer.{Answer}
 use Rattle.cord_commands.specs.declared.answer.Answer.TheVariants.{Told, Cords}
 use Rattle.cord_commands.specs.Answers.{ok, told_by}
 use Rattle.cord_commands.specs.Bare.{StepsTo}
-use Rattle.cord_commands.specs.Does.{NoReport, AreFor, AreFormed, Does}
+use Rattle.cord_commands.specs.Does.{NoReport, AreFor, AreFormed, IsCause, Does}
 use Rattle.cord_commands.specs.Views.{cord_in, names_of, AreSame, IsSetTo}
 use Rattle.cord_commands.proofs.Doing.{set-naming, same-names, found-in, none-in, formed-same, formed-set}
 use Rattle.cord_seats.specs.Working.{did_of, Advances}
@@ -47,10 +49,10 @@ no-cord-whole = omega arith
 
 module _ (size limit : ℕ) (v w : View) (old new : Names CordView) (unused : w.unused ≡ v.unused) where
   -- nothing was done on the board, and the names stay
-  advances-quiet : (seat : BoardView CordView) (request : Request) (answer : Answer) → AreSame old new
+  advances-quiet : (seat : BoardView CordView) (request : Request) (answer : Answer) → AreSame old new → IsCause size limit v w answer
       → ((options : Options) (s : Session) → AreFor options size limit → s.names ≡ names_of old → StepsAlone {Report = NoReport} options (session_of seat) s (request, told_by answer) [] s)
       → Advances size limit seat seat v w old new request answer
-  advances-quiet seat request answer same step = record {
+  advances-quiet seat request answer same cause step = record {
     formed = formed-same old new same;
     now = [];
     did = sym (append-nil (did_of seat));
@@ -62,14 +64,15 @@ module _ (size limit : ℕ) (v w : View) (old new : Names CordView) (unused : w.
       };
       step = step options s for at.at.names;
     };
+    cause = cause;
   }
 
   -- one action
   advances-acting : (seat after : BoardView CordView) (request : Request) (answer : Answer) (d : Deed CordView) → Did seat after d → (AreFormed old → AreFormed new)
-      → ((options : Options) (s : Session) → s.names ≡ names_of old → s.acted + 1 ≡ next_place seat
+      → IsCause size limit v w answer → ((options : Options) (s : Session) → s.names ≡ names_of old → s.acted + 1 ≡ next_place seat
       → StepsAlone {Report = NoReport} options (session_of seat) s (request, told_by answer) (mapped_deed cord_in d ∷ []) (acted_with s (names_of new)))
       → Advances size limit seat after v w old new request answer
-  advances-acting seat after request answer d did formed step =
+  advances-acting seat after request answer d did formed cause step =
       let mine : mine_of after ≡ mine_of seat ++ d ∷ [] = ap mine_of did in
       let count : length (mine_of after) ≡ length (mine_of seat) + 1 = ap length mine ∙ length-append (mine_of seat) (d ∷ []) in
       record {
@@ -84,25 +87,26 @@ module _ (size limit : ℕ) (v w : View) (old new : Names CordView) (unused : w.
           };
           step = step options s at.at.names (ap (λ n. n + 1) at.acted);
         };
+        cause = cause;
       }
 
   -- ---- the name was never set
   pub put-unset-advances : (seat : BoardView CordView) (a : List ℕ) (cell : ℕ) (answer : Answer) → named old a ≡ None → AreSame old new → answer ≡ Told (replies.Unset a)
       → Advances size limit seat seat v w old new (Plain (commands.Put a cell)) answer
   put-unset-advances seat a cell answer none same is = subst (Advances size limit seat seat v w old new (Plain (commands.Put a cell))) (sym is)
-      (advances-quiet seat (Plain (commands.Put a cell)) (Told (replies.Unset a)) same
+      (advances-quiet seat (Plain (commands.Put a cell)) (Told (replies.Unset a)) same tt
       (λ options s for have. put-unset {R = NoReport} options (session_of seat) s a cell (ap (λ (z : cords.Names). z a) have ∙ none-in old a none)))
 
   pub swap-unset-advances : (seat : BoardView CordView) (a : List ℕ) (cell : ℕ) (answer : Answer) → named old a ≡ None → AreSame old new → answer ≡ Told (replies.Unset a)
       → Advances size limit seat seat v w old new (Plain (commands.Swap a cell)) answer
   swap-unset-advances seat a cell answer none same is = subst (Advances size limit seat seat v w old new (Plain (commands.Swap a cell))) (sym is)
-      (advances-quiet seat (Plain (commands.Swap a cell)) (Told (replies.Unset a)) same
+      (advances-quiet seat (Plain (commands.Swap a cell)) (Told (replies.Unset a)) same tt
       (λ options s for have. swap-unset {R = NoReport} options (session_of seat) s a cell (ap (λ (z : cords.Names). z a) have ∙ none-in old a none)))
 
   -- ---- there was no pass
-  pub peek-refused-advances : (seat : BoardView CordView) (cell : ℕ) (a : List ℕ) (found : ℕ) → limit ≤ found → AreSame old new
-      → Advances size limit seat seat v w old new (Plain (commands.Peek cell a)) (Cords found)
-  peek-refused-advances seat cell a found most same = advances-quiet seat (Plain (commands.Peek cell a)) (Cords found) same
+  pub peek-refused-advances : (seat : BoardView CordView) (cell : ℕ) (a : List ℕ) (found : ℕ) → limit ≤ found → w ≡ uncounted (counted found v)
+      → AreSame old new → Advances size limit seat seat v w old new (Plain (commands.Peek cell a)) (Cords found)
+  peek-refused-advances seat cell a found most undone same = advances-quiet seat (Plain (commands.Peek cell a)) (Cords found) same (balanced-limit limit found v w most undone)
       (λ options s for have. peek-refused {R = NoReport} options (session_of seat) s cell a found (omega (arith, for.passes, most)))
 
   -- ---- one action
@@ -120,7 +124,7 @@ module _ (size limit : ℕ) (v w : View) (old new : Names CordView) (unused : w.
     pub put-advances : (a : List ℕ) (cell : ℕ) (item : CordView) (was : Option CordView) (answer : Answer) → named old a ≡ Some item → IsSetTo old new a no_cord
         → Did seat after (deed (session_of seat) (next_place seat) Put cell (Some item) was) → answer ≡ ok → Advances size limit seat after v w old new (Plain (commands.Put a cell)) answer
     put-advances a cell item was answer own set did is = subst (Advances size limit seat after v w old new (Plain (commands.Put a cell))) (sym is)
-        (advances-acting seat after (Plain (commands.Put a cell)) ok (deed (session_of seat) (next_place seat) Put cell (Some item) was) did (formed-set old new a no_cord set no-cord-whole)
+        (advances-acting seat after (Plain (commands.Put a cell)) ok (deed (session_of seat) (next_place seat) Put cell (Some item) was) did (formed-set old new a no_cord set no-cord-whole) tt
         (λ options s have place. subst (λ (z : ℕ × Option ℕ). StepsAlone {Report = NoReport} options (session_of seat) s (Plain (commands.Put a cell), steps.Told (gave_up z.1))
         (deed (session_of seat) z.0 Put cell (Some (cord_in item)) (option_map cord_in was) ∷ []) (acted_with s (names_of new))) (λ i. (place i, stampless was i))
         (put-alone {R = NoReport} options (session_of seat) s a cell (cord_in item) (option_map cord_in was) (names_of new) (ap (λ (z : cords.Names). z a) have ∙ found-in old a item own)
@@ -129,7 +133,7 @@ module _ (size limit : ℕ) (v w : View) (old new : Names CordView) (unused : w.
     pub take-advances : (cell : ℕ) (a : List ℕ) (c : CordView) (answer : Answer) → IsTreeOf c.bytes c.tree → IsSetTo old new a c
         → Did seat after (deed (session_of seat) (next_place seat) Take cell None (Some c)) → answer ≡ ok → Advances size limit seat after v w old new (Plain (commands.Take cell a)) answer
     take-advances cell a c answer whole set did is = subst (Advances size limit seat after v w old new (Plain (commands.Take cell a))) (sym is)
-        (advances-acting seat after (Plain (commands.Take cell a)) ok (deed (session_of seat) (next_place seat) Take cell None (Some c)) did (formed-set old new a c set whole)
+        (advances-acting seat after (Plain (commands.Take cell a)) ok (deed (session_of seat) (next_place seat) Take cell None (Some c)) did (formed-set old new a c set whole) tt
         (λ options s have place. subst (λ (z : ℕ × Option ℕ). StepsAlone {Report = NoReport} options (session_of seat) s (Plain (commands.Take cell a), steps.Told (gave_up z.1))
         (deed (session_of seat) z.0 Take cell None (Some (cord_in c)) ∷ []) (acted_with s (names_of new))) (λ i. (place i, no-stamp s a have i))
         (take-alone {R = NoReport} options (session_of seat) s cell a (Some (cord_in c)) (names_of new) (set-names s a c have set))))
@@ -138,7 +142,7 @@ module _ (size limit : ℕ) (v w : View) (old new : Names CordView) (unused : w.
         → Did seat after (deed (session_of seat) (next_place seat) Take cell None None) → answer ≡ Told (replies.Empty cell)
         → Advances size limit seat after v w old new (Plain (commands.Take cell a)) answer
     take-empty-advances cell a answer same did is = subst (Advances size limit seat after v w old new (Plain (commands.Take cell a))) (sym is)
-        (advances-acting seat after (Plain (commands.Take cell a)) (Told (replies.Empty cell)) (deed (session_of seat) (next_place seat) Take cell None None) did (formed-same old new same)
+        (advances-acting seat after (Plain (commands.Take cell a)) (Told (replies.Empty cell)) (deed (session_of seat) (next_place seat) Take cell None None) did (formed-same old new same) tt
         (λ options s have place. subst (λ (z : ℕ). StepsAlone {Report = NoReport} options (session_of seat) s (Plain (commands.Take cell a), steps.Told (replies.Empty cell))
         (deed (session_of seat) z Take cell None None ∷ []) (acted_with s (names_of new))) place
         (take-alone {R = NoReport} options (session_of seat) s cell a None (names_of new) (kept-names s have same))))
@@ -146,7 +150,7 @@ module _ (size limit : ℕ) (v w : View) (old new : Names CordView) (unused : w.
     pub peek-advances : (cell : ℕ) (a : List ℕ) (c : CordView) (answer : Answer) → IsTreeOf c.bytes c.tree → IsSetTo old new a c
         → Did seat after (deed (session_of seat) (next_place seat) Peek cell None (Some c)) → answer ≡ ok → Advances size limit seat after v w old new (Plain (commands.Peek cell a)) answer
     peek-advances cell a c answer whole set did is = subst (Advances size limit seat after v w old new (Plain (commands.Peek cell a))) (sym is)
-        (advances-acting seat after (Plain (commands.Peek cell a)) ok (deed (session_of seat) (next_place seat) Peek cell None (Some c)) did (formed-set old new a c set whole)
+        (advances-acting seat after (Plain (commands.Peek cell a)) ok (deed (session_of seat) (next_place seat) Peek cell None (Some c)) did (formed-set old new a c set whole) tt
         (λ options s have place. subst (λ (z : ℕ). StepsAlone {Report = NoReport} options (session_of seat) s (Plain (commands.Peek cell a), steps.Told (gave_up None))
         (deed (session_of seat) z Peek cell None (Some (cord_in c)) ∷ []) (acted_with s (names_of new))) place
         (peek-alone {R = NoReport} options (session_of seat) s cell a (Some (cord_in c)) (gave_up None) (names_of new) (refl, sym (no-stamp s a have)) (set-names s a c have set))))
@@ -155,7 +159,7 @@ module _ (size limit : ℕ) (v w : View) (old new : Names CordView) (unused : w.
         → Did seat after (deed (session_of seat) (next_place seat) Peek cell None None) → answer ≡ Told (replies.Empty cell)
         → Advances size limit seat after v w old new (Plain (commands.Peek cell a)) answer
     peek-empty-advances cell a answer same did is = subst (Advances size limit seat after v w old new (Plain (commands.Peek cell a))) (sym is)
-        (advances-acting seat after (Plain (commands.Peek cell a)) (Told (replies.Empty cell)) (deed (session_of seat) (next_place seat) Peek cell None None) did (formed-same old new same)
+        (advances-acting seat after (Plain (commands.Peek cell a)) (Told (replies.Empty cell)) (deed (session_of seat) (next_place seat) Peek cell None None) did (formed-same old new same) tt
         (λ options s have place. subst (λ (z : ℕ). StepsAlone {Report = NoReport} options (session_of seat) s (Plain (commands.Peek cell a), steps.Told (replies.Empty cell))
         (deed (session_of seat) z Peek cell None None ∷ []) (acted_with s (names_of new))) place
         (peek-alone {R = NoReport} options (session_of seat) s cell a None (replies.Empty cell) (names_of new) refl (kept-names s have same))))
@@ -163,7 +167,8 @@ module _ (size limit : ℕ) (v w : View) (old new : Names CordView) (unused : w.
     pub swap-advances : (a : List ℕ) (cell : ℕ) (item c : CordView) (answer : Answer) → named old a ≡ Some item → IsTreeOf c.bytes c.tree → IsSetTo old new a c
         → Did seat after (deed (session_of seat) (next_place seat) Swap cell (Some item) (Some c)) → answer ≡ ok → Advances size limit seat after v w old new (Plain (commands.Swap a cell)) answer
     swap-advances a cell item c answer own whole set did is = subst (Advances size limit seat after v w old new (Plain (commands.Swap a cell))) (sym is)
-        (advances-acting seat after (Plain (commands.Swap a cell)) ok (deed (session_of seat) (next_place seat) Swap cell (Some item) (Some c)) did (formed-set old new a c set whole)
+        (advances-acting seat after (Plain (commands.Swap a cell)) ok (deed (session_of seat) (next_place seat) Swap cell (Some item) (Some c)) did
+        (formed-set old new a c set whole) tt
         (λ options s have place. subst (λ (z : ℕ). StepsAlone {Report = NoReport} options (session_of seat) s (Plain (commands.Swap a cell), steps.Told (gave_up None))
         (deed (session_of seat) z Swap cell (Some (cord_in item)) (Some (cord_in c)) ∷ []) (acted_with s (names_of new))) place
         (swap-alone {R = NoReport} options (session_of seat) s a cell (cord_in item) (Some (cord_in c)) (names_of new) (ap (λ (z : cords.Names). z a) have ∙ found-in old a item own)
@@ -173,7 +178,7 @@ module _ (size limit : ℕ) (v w : View) (old new : Names CordView) (unused : w.
         → Did seat after (deed (session_of seat) (next_place seat) Swap cell None None) → answer ≡ Told (replies.Empty cell)
         → Advances size limit seat after v w old new (Plain (commands.Swap a cell)) answer
     swap-empty-advances a cell item answer own same did is = subst (Advances size limit seat after v w old new (Plain (commands.Swap a cell))) (sym is)
-        (advances-acting seat after (Plain (commands.Swap a cell)) (Told (replies.Empty cell)) (deed (session_of seat) (next_place seat) Swap cell None None) did (formed-same old new same)
+        (advances-acting seat after (Plain (commands.Swap a cell)) (Told (replies.Empty cell)) (deed (session_of seat) (next_place seat) Swap cell None None) did (formed-same old new same) tt
         (λ options s have place. subst (λ (z : ℕ). StepsAlone {Report = NoReport} options (session_of seat) s (Plain (commands.Swap a cell), steps.Told (replies.Empty cell))
         (deed (session_of seat) z Swap cell None None ∷ []) (acted_with s (names_of new))) place
         (swap-alone {R = NoReport} options (session_of seat) s a cell (cord_in item) None (names_of new) (ap (λ (z : cords.Names). z a) have ∙ found-in old a item own)
@@ -186,6 +191,7 @@ does-advances size limit v w old new seat request answer apart does = record {
   formed = does.formed;
   now = [];
   did = sym (append-nil (did_of seat));
+  cause = does.cause;
   step = λ options s for at whole.
       let to : StepsTo {Report = NoReport} options (session_of seat) s request (told_by answer) (names_of new) (s.externals + does.externals) =
       does.step options (session_of seat) s for at.at whole in

@@ -4,6 +4,7 @@ use Rattle.std.specs.Global.{Vec}
 use Rattle.cord_commands.specs.declared.answer.Answer.{Answer}
 use Rattle.cord_commands.specs.Accounts.{trees_of}
 use Rattle.cord_commands.specs.Slots.{slots_in, lengths_in}
+use Rattle.cord_seats.specs.Causes.{IsShown}
 use Rattle.cord_seats.specs.Told.{IsToldAlone, externals_by}
 use Rattle.plain_cord.specs.declared.script.Command.{Command}
 use Rattle.plain_cord.specs.declared.script.Session.{Session}
@@ -24,11 +25,14 @@ use Rattle.cord_seats.specs.Entries.{entries_for_all, entries_for_sessions}
 abbrev pub own_slots : ℕ → ℕ → List ℕ
 own_slots slots p = take 16 (drop (p * 16) (numbers.below slots))
 
--- the worker of the session p, which holds nothing, made no pass and used none of its slots
+-- the worker of the session p, which holds nothing, made no step and used none of its slots
 pub record IsNew (slots p : ℕ) (w : View) : Type 0 where
   pub holds : length w.holds ≡ 0
   pub made : w.made ≡ 0
   pub ended : w.ended ≡ 0
+  pub taken : w.taken ≡ []
+  pub full : w.full ≡ []
+  pub counts : w.counts ≡ []
   pub used : w.used ≡ []
   pub unused : w.unused ≡ own_slots slots p
 
@@ -41,7 +45,8 @@ pub record Starts {g : _} (slots : ℕ) (b : Board CordView) (said : List Comman
   pub room : entries_for_all said ≤ entries_left (board_view seat)
   pub new : IsNew slots p w
 
--- and after them: passes made and trees got are passes ended and trees handed in, and its slots are used by what its answers tell
+-- and after them: passes made and trees got are passes ended and trees handed in, its slots are used by what its answers tell, and its worker's
+-- lists show the causes of its refusals
 pub record Ends {g : _} (size limit slots : ℕ) (b : Board CordView) (said : List Command) (p : ℕ) (seat : BoardPass CordView g) (w : View)
     (answers : Option (Vec Answer)) : Type 0 where
   pub on : IsOn b seat
@@ -52,6 +57,7 @@ pub record Ends {g : _} (size limit slots : ℕ) (b : Board CordView) (said : Li
   pub told : IfSome answers (λ rs. IsToldAlone size limit (length (own_slots slots p)) p said rs.items (mine_of (board_view seat)))
   pub kept : slots_in w ≡ own_slots slots p
   pub uses : IfSome answers (λ rs. lengths_in w ≡ externals_by said rs.items)
+  pub caused : IfSome answers (λ rs. IsShown size limit (length (own_slots slots p)) w rs.items)
 
 -- the same of a chair
 module _ {P : Type 0} {g : _} where

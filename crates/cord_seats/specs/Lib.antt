@@ -1,5 +1,6 @@
 -- What is true of sessions on cords.
 pub mod Boxes
+pub mod Causes
 pub mod Chairs
 pub mod Clearings
 pub mod Entries

@@ -13,7 +13,7 @@ use Rattle.cord_board.specs.declared.view.BoardView.{BoardView}
 use Rattle.cord_board.specs.Views.{session_of, mine_of}
 use Rattle.cord_commands.specs.declared.answer.Answer.{Answer}
 use Rattle.cord_commands.specs.Answers.{told_by}
-use Rattle.cord_commands.specs.Does.{NoReport, AreFor, IsAt, AreFormed}
+use Rattle.cord_commands.specs.Does.{NoReport, AreFor, IsAt, IsCause, AreFormed}
 use Rattle.cord_commands.specs.Views.{cord_in}
 
 -- the worker used no releaser slot
@@ -38,7 +38,7 @@ pub record GoesTo (options : Options) (p : ℕ) (s : Session) (request : Request
   pub step : StepsAlone {Report = NoReport} options p s (request, told_by answer) now after
 
 -- One request with its answer: whichever session is at work with the old names goes to the new ones, by itself, in a run over a pool of so many
--- numbers and at most so many passes. Cords of names stay whole.
+-- numbers and at most so many passes. Cords of names stay whole, and the worker's lists show the answer's cause.
 pub record Advances (size limit : ℕ) (seat after : BoardView CordView) (v w : View) (old new : Names CordView) (request : Request) (answer : Answer)
     : Type 0 where
   pub formed : AreFormed old → AreFormed new
@@ -46,3 +46,4 @@ pub record Advances (size limit : ℕ) (seat after : BoardView CordView) (v w : 
   pub did : did_of after ≡ did_of seat ++ now
   pub step : (options : Options) (s : Session) → AreFor options size limit → IsAtWork s old seat v → AreFormed old
       → GoesTo options (session_of seat) s request answer now new after w
+  pub cause : IsCause size limit v w answer

@@ -2,6 +2,7 @@
 ghost use Rattle.std.specs.Prelude.{◌≡◌, ◌≤◌, ◌<◌, ℕ, [], length, vec_capacity, slice_index_or, IfSome, Some, map};
 ghost use Rattle.node_pool.specs.Starts.{slot_count};
 ghost use Rattle.cord_commands.specs.Slots.{lengths_in};
+ghost use Rattle.cord_seats.specs.Causes.{IsShown};
 ghost use Rattle.cord_seats.specs.Told.{IsToldAlone, externals_by};
 ghost use Rattle.plain_cord.specs.declared.script.Session.{Session as Session_value};
 ghost use Rattle.pool_rule.specs.Views.{View};
@@ -132,6 +133,8 @@ pub fn gather<P: Naming>(
         → Came (slot_count P.workers P.table.slots) (joined_of (board_view root.new)) p (slice_index_or result.workers.items p w) }
     ensures uses { (p : ℕ) (s : Session_value) (w : View) (a : _) → p < length sessions.now → IfSome (slice_index_or result.answers.items p a)
         (λ rs. lengths_in (slice_index_or result.workers.items p w) ≡ externals_by (slice_index_or sessions.now p s).commands rs.items) }
+    ensures caused { (p : ℕ) (w : View) (a : _) → p < length sessions.now → IfSome (slice_index_or result.answers.items p a)
+        (λ rs. IsShown P.size P.limit (length (own_slots (slot_count P.workers P.table.slots) p)) (slice_index_or result.workers.items p w) rs.items) }
 {
     let Gathered {
         mut workers,

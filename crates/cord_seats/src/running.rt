@@ -6,6 +6,7 @@ ghost use Rattle.node_pool.specs.Opened.{opened_table, opened_numbers, opened_pa
 ghost use Rattle.cord_board.specs.Log.{cells_in};
 ghost use Rattle.cord_board.specs.Passes.{board_view, IsOn};
 ghost use Rattle.cord_board.specs.Views.{has, gave_of, joined_of, clearings_of, cleared_of, IsLast};
+ghost use Rattle.cord_seats.specs.Causes.{AreShown};
 ghost use Rattle.cord_seats.specs.Chairs.{StartsIn, EndsIn, Seated, below};
 ghost use Rattle.cord_seats.specs.Clearings.{weigh_clearings};
 ghost use Rattle.cord_seats.specs.Entries.{IsRunnableSession, entries_for_sessions};
@@ -176,6 +177,7 @@ fn run_named<R: Threads + Wait + Sync, P: Naming + Send + Sync, B: Releaser + Se
     ensures answered { IfOk result (λ run. AreAnswered sessions.now (map (λ rs. rs.items) run.answers.items)) }
     ensures run { IfOk result (λ run. IsRun {Report = Unit {0}} (options_for P.size P.limit) (boxes_of (length P.boxes))
         (map (λ session. map request_of session.commands) sessions.now) (map (λ rs. map told_by rs.items) run.answers.items) run.history.items) }
+    ensures caused { IfOk result (λ run. AreShown P.size P.limit (boxes_of (length P.boxes)) (map (λ rs. rs.items) run.answers.items)) }
     ensures boxes { IfOk result (λ run. AreCalled (all_externals sessions.now (map (λ rs. rs.items) run.answers.items)) P.boxes
         (handed_in B.calls_of B.latest_of run.returned.items)) }
     ensures back { IfErr result (λ refused. AreBack P.boxes (handed_in B.calls_of B.latest_of refused.returned.items)) }
@@ -255,6 +257,8 @@ pub fn run_over<R: Threads + Wait + Sync, B: Releaser + Send, G: Gate + Sync>(
     ensures answered { IfOk result (λ run. AreAnswered script.now.sessions (map (λ rs. rs.items) run.answers.items)) }
     ensures run { IfOk result (λ run. IsRun {Report = Unit {0}} (options_of script.now) (boxes_of (length releasers.items)) (requests_of script.now)
         (map (λ rs. map told_by rs.items) run.answers.items) run.history.items) }
+    ensures caused { IfOk result (λ run. AreShown script.now.pool script.now.passes (boxes_of (length releasers.items))
+        (map (λ rs. rs.items) run.answers.items)) }
     ensures boxes { IfOk result (λ run. AreCalled (all_externals script.now.sessions (map (λ rs. rs.items) run.answers.items))
         (handed_in B.calls_of B.latest_of releasers.items) (handed_in B.calls_of B.latest_of run.returned.items)) }
     ensures back { IfErr result (λ refused. AreBack (handed_in B.calls_of B.latest_of releasers.items)
@@ -289,6 +293,8 @@ pub fn run_script<R: Threads + Wait + Sync, G: Gate + Sync>(
     ensures answered { IfOk result (λ run. AreAnswered script.now.sessions (map (λ rs. rs.items) run.answers.items)) }
     ensures run { IfOk result (λ run. IsRun {Report = Unit {0}} (options_of script.now) (boxes_of (length releasers.items)) (requests_of script.now)
         (map (λ rs. map told_by rs.items) run.answers.items) run.history.items) }
+    ensures caused { IfOk result (λ run. AreShown script.now.pool script.now.passes (boxes_of (length releasers.items))
+        (map (λ rs. rs.items) run.answers.items)) }
     ensures boxes { IfOk result (λ run. AreCalled (all_externals script.now.sessions (map (λ rs. rs.items) run.answers.items))
         (handed_in calls_of latest_of releasers.items) (handed_in calls_of latest_of run.returned.items)) }
     ensures back { IfErr result (λ refused. AreBack (handed_in calls_of latest_of releasers.items)

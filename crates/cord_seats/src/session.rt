@@ -8,6 +8,7 @@ ghost use Rattle.ordered_names.specs.Named.{named, all_in};
 ghost use Rattle.cord_steps.specs.Replies.{request_of};
 ghost use Rattle.cord_commands.specs.Accounts.{trees_in, IsSteady};
 ghost use Rattle.cord_commands.specs.Slots.{external_by, SameSlots, Uses};
+ghost use Rattle.cord_seats.specs.Causes.{AreCaused};
 ghost use Rattle.cord_seats.specs.Entries.{entries_for, entries_for_all};
 ghost use Rattle.cord_seats.specs.Seats.{GoesOn, Settles, StaysSteady};
 ghost use Rattle.cord_seats.specs.Told.{IsToldAlone, externals_by};
@@ -82,6 +83,7 @@ fn do_all<'a, R: Wait, P: Naming, B: Releaser, G: Gate>(
     ensures seat { IsSession (board_view seat.new) × (session_of (board_view seat.new) ≡ session_of (board_view seat.old)) }
     ensures told { IfOk result (λ answers. IsToldAlone P.size P.limit (length w.old.unused) (session_of (board_view seat.old)) commands.now answers.items
         (mine_of (board_view seat.new))) }
+    ensures caused { IfOk result (λ answers. AreCaused P.size P.limit w.old w.new answers.items) }
     ensures slots { SameSlots w.old w.new }
     ensures uses { IfOk result (λ answers. Uses w.old w.new (externals_by commands.now answers.items)) }
     ensures steady { StaysSteady w.old w.new (trees_in names.old) (trees_in names.new) (mine_of (board_view seat.old)) (mine_of (board_view seat.new)) }
@@ -134,6 +136,7 @@ pub fn run_session<R: Wait, P: Naming, B: Releaser, G: Gate>(
     ensures settled { Settles w.old w.new (mine_of (board_view seat.new)) }
     ensures told { IfOk result (λ answers. IsToldAlone P.size P.limit (length w.old.unused) (session_of (board_view seat.old)) session.now.commands
         answers.items (mine_of (board_view seat.new))) }
+    ensures caused { IfOk result (λ answers. AreCaused P.size P.limit w.old w.new answers.items) }
     ensures slots { SameSlots w.old w.new }
     ensures uses { IfOk result (λ answers. Uses w.old w.new (externals_by session.now.commands answers.items)) }
 {

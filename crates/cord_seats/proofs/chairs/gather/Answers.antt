@@ -1,6 +1,9 @@
 -- One session more comes back.
 use Rattle.std.proofs.Common.{rules, arith, ◌≡◌, ◌+◌, ℕ, List, ◌∷◌, ◌++◌, [], get_or, length, vec_len, sym, ap, ◌∙◌, subst}
-use Rattle.std.specs.Prelude.{IfSome}
+use Rattle.std.specs.Prelude.{Option, IfSome}
+use Rattle.std.specs.Global.{Vec}
+use Rattle.cord_commands.specs.declared.answer.Answer.{Answer}
+use Rattle.cord_seats.specs.Causes.{IsShown}
 use Rattle.cord_seats.specs.Told.{IsToldAlone, externals_by}
 use Rattle.std.specs.Vec.Iter.{into_iter_items, into_iter_len}
 use Rattle.plain_cord.specs.declared.script.Session.{Session}
@@ -45,6 +48,7 @@ loop-chair-init g c =
       answers = λ p s a low. absurd (omega arith);
       back = λ p w low. absurd (omega arith);
       uses = λ p s w a low. absurd (omega arith);
+      caused = λ p w a low. absurd (omega arith);
     }
 
 pub merge-requires-clause-board : goal.merge-requires-clause-board
@@ -122,6 +126,13 @@ loop-chair-preserved g c =
           (subst (λ z. IfSome (get_or z p a) (λ rs. lengths_in (get_or (c.loop-chair.workers.items ++ c.in-Some.chair.worker ∷ []) p w) ≡ externals_by (get_or sessions p s).commands rs.items)) (sym c.push_reserved-in-loop-chair.ensures.items)
           (each_more_two (λ q (u : View) o. IfSome o (λ rs. lengths_in u ≡ externals_by (get_or sessions q s).commands rs.items)) c.loop-chair.workers.items c.loop-chair.answers.items c.in-Some.chair.worker c.in-Some.chair.answers n (sym c.loop-chair.workers.ok.0) (sym c.loop-chair.answers.ok.0 ∙ inv.same)
           (λ q u o l. inv.uses q s u o l) (ends_at s).uses p w a (omega arith)));
+      caused = λ p w a low.
+          let slots : ℕ → ℕ = λ q. length (own_slots (slot_count g.P.Naming.workers g.P.Naming.table.slots) q) in
+          let Shown : ℕ → View → Option (Vec Answer) → Type 0 = λ q u o. IfSome o (λ rs. IsShown g.P.Naming.size g.P.Naming.limit (slots q) u rs.items) in
+          subst (λ (z : List View × List (Option (Vec Answer))). Shown p (get_or z.0 p w) (get_or z.1 p a))
+          (λ i. (sym c.push_reserved.ensures.items i, sym c.push_reserved-in-loop-chair.ensures.items i))
+          (each_more_two Shown c.loop-chair.workers.items c.loop-chair.answers.items c.in-Some.chair.worker c.in-Some.chair.answers n
+          (sym c.loop-chair.workers.ok.0) (sym c.loop-chair.answers.ok.0 ∙ inv.same) inv.caused one.caused p w a (omega arith));
     }
 
 pub returns-clause-answers : goal.returns-clause-answers
@@ -132,3 +143,10 @@ returns-clause-answers g c =
     let count = inv.count in
     let len = c.loop-chair.answers.ok.0 in
     (omega arith, λ p s a low. inv.answers p s a (omega arith))
+
+pub returns-clause-caused : goal.returns-clause-caused
+returns-clause-caused g c =
+    let inv = c.loop-chair.invariant in
+    let steps = c.in-None.ensures.steps in
+    let count = inv.count in
+    λ p w a low. inv.caused p w a (omega arith)

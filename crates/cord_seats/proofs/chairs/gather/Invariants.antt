@@ -1,6 +1,7 @@
 -- The sessions so far have come back with their workers, and the others are still out.
 use Rattle.std.proofs.Common.{◌≡◌, ℕ, ◌<◌, ◌≤◌, ◌+◌, length, vec_len, vec_capacity}
 use Rattle.std.specs.Prelude.{slice_index_or, IfSome}
+use Rattle.cord_seats.specs.Causes.{IsShown}
 use Rattle.cord_seats.specs.Told.{IsToldAlone, externals_by}
 use Rattle.std.specs.Vec.Iter.{into_iter_items, into_iter_len}
 use Rattle.plain_cord.specs.declared.script.Session.{Session}
@@ -23,4 +24,6 @@ invariant-loop-chair g l = let rest = l.chair-iterator in let done = vec_len l.w
   answers : (p : ℕ) (s : Session) (a : _) → p < done → IfSome (slice_index_or l.answers.items p a) (λ rs. IsToldAlone g.P.Naming.size g.P.Naming.limit (length (own_slots (slot_count g.P.Naming.workers g.P.Naming.table.slots) p)) p (slice_index_or l.sessions p s).commands rs.items (mine_in (joined_of (board_view l.root)) p));
   back : (p : ℕ) (w : View) → p < done → Came (slot_count g.P.Naming.workers g.P.Naming.table.slots) (joined_of (board_view l.root)) p (slice_index_or l.workers.items p w);
   uses : (p : ℕ) (s : Session) (w : View) (a : _) → p < done → IfSome (slice_index_or l.answers.items p a) (λ rs. lengths_in (slice_index_or l.workers.items p w) ≡ externals_by (slice_index_or l.sessions p s).commands rs.items);
+  caused : (p : ℕ) (w : View) (a : _) → p < done → IfSome (slice_index_or l.answers.items p a)
+      (λ rs. IsShown g.P.Naming.size g.P.Naming.limit (length (own_slots (slot_count g.P.Naming.workers g.P.Naming.table.slots) p)) (slice_index_or l.workers.items p w) rs.items);
 }

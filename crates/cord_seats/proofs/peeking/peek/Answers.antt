@@ -31,7 +31,7 @@ returns-in-Err-clause-told g c =
     let found = c.in-Err.field-0.found in
     let names = c.args.names.now in
     peek-refused-advances g.P.Naming.size g.P.Naming.limit _ _ names names (steady-unused _ _ 0 0 (undone-steady found _ _ c.in-Err.ensures.refused)) (board_view c.args.seat.now)
-    c.args.cell c.args.a.now found c.in-Err.ensures.limit (λ q. refl)
+    c.args.cell c.args.a.now found c.in-Err.ensures.limit c.in-Err.ensures.refused (λ q. refl)
 
 pub returns-in_default-clause-steady : goal.returns-in_default-clause-steady
 returns-in_default-clause-steady g c =

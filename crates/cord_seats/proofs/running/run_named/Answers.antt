@@ -17,7 +17,7 @@ use Rattle.cord_seats.specs.Clearings.{weigh_clearings}
 use Rattle.cord_seats.proofs.Lists.{is_below, whole_slice}
 use Rattle.cord_seats.proofs.Answered.{all-answered, some-weaker}
 use Rattle.cord_seats.proofs.Boxes.{returned-back}
-use Rattle.cord_seats.proofs.Finished.{finished-run, finished-boxes}
+use Rattle.cord_seats.proofs.Finished.{finished-run, finished-boxes, finished-shown}
 use Rattle.cord_seats.proofs.Runs.{length_in}
 use Rattle.cord_seats.proofs.Places.{popped-are, new-length, new-at, own-new, steady-used}
 use Rattle.cord_seats.proofs.Whole.{new-count, all-idle}
@@ -92,6 +92,9 @@ returns-in-Some-all_answers g c =
           (λ p s o low. some-weaker (get_or found p o) _ _ (λ rs t. t.answered) (gathered.answers.1 p s o low));
       run = finished-run sessions found books is gathered.answers.0 joined c.sessions_alone_make_runs.ensures.unsampled size limit workers g.P.Naming.table.slots (length before) history (clearings_of v)
           c.requires.workers.1 c.requires.slots gathered.answers.1 j.back end;
+      caused = finished-shown sessions found books is gathered.answers.0 joined size limit workers g.P.Naming.table.slots (length before) ws c.push_reserved.new.self.items own
+          c.requires.workers.1 c.requires.slots gathered.len c.push_reserved.ensures.items gathered.caused (subst (λ (z : List View). IsAllIdle z) (sym c.push_reserved.ensures.items) idle)
+          c.close-in_use.ensures.taken c.close-in_use.ensures.counts;
       boxes = finished-boxes sessions found books is gathered.answers.0 joined slots c.close-in_use.result.in_use ws c.push_reserved.new.self.items own before
           (handed_in g.B.Releaser.calls_of g.B.Releaser.latest_of c.close-in_use.result.releasers.items) gathered.len gathered.back gathered.uses (steady-used c.in-Some.own own _ _ steady new.3)
           c.push_reserved.ensures.items left c.close-in_use.ensures.boxes;

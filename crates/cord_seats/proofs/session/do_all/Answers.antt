@@ -7,7 +7,9 @@ use Rattle.cord_board.specs.Views.{session_of, mine_of}
 use Rattle.cord_commands.specs.declared.answer.Answer.{Answer}
 use Rattle.cord_commands.specs.Accounts.{trees_in}
 use Rattle.cord_commands.specs.Slots.{external_by, Uses}
+use Rattle.cord_seats.specs.Causes.{AreCaused}
 use Rattle.cord_seats.specs.Told.{externals_by}
+use Rattle.cord_seats.proofs.Causes.{caused-none, caused-more}
 use Rattle.cord_seats.proofs.Counts.{stays-then, stays-none}
 use Rattle.cord_seats.proofs.Entries.{entries-drop}
 use Rattle.cord_seats.proofs.Lists.{take-more}
@@ -27,6 +29,7 @@ loop-i-init g c =
       room = search rules;
       ran = subst (λ (z : List Answer). HasRun g.P.Naming.size g.P.Naming.limit (length w.unused) (session_of seat) [] z c.args.names.now seat w) (search rules)
           (run-starts g.P.Naming.size g.P.Naming.limit (session_of seat) c.args.names.now seat w c.requires.fresh.1 c.requires.none);
+      caused = caused-none g.P.Naming.size g.P.Naming.limit w _ (search rules);
       uses = idle-uses _ _ (idle-same _ _ refl);
       steady = stays-none w (trees_in c.args.names.now) (mine_of seat);
     }
@@ -59,6 +62,9 @@ loop-i-preserved g c =
       ran = subst (λ (z : List Command × List Answer). HasRun g.P.Naming.size g.P.Naming.limit boxes p z.0 z.1 names seat w) (λ k. (more k, sym items k))
           (run-more g.P.Naming.size g.P.Naming.limit boxes p (take i commands) c.loop-i.answers.items c.loop-i.names names (board_view c.loop-i.seat) seat
           c.loop-i.w w command answer inv.ran inv.same c.in_ok-answer.ensures.told);
+      caused = subst (AreCaused g.P.Naming.size g.P.Naming.limit c.args.w.now w) (sym items)
+          (caused-more g.P.Naming.size g.P.Naming.limit c.args.w.now c.loop-i.w w c.loop-i.answers.items answer inv.caused c.do_command.ensures.steady.grew
+          c.in_ok-answer.ensures.told.cause);
       uses = subst (λ (z : List Command × List Answer). Uses c.args.w.now w (externals_by z.0 z.1)) (λ k. (more k, sym items k))
           (subst (Uses c.args.w.now w) (sym (externals-more (take i commands) c.loop-i.answers.items command answer inv.ran.answered))
           (uses-then c.args.w.now c.loop-i.w w (externals_by (take i commands) c.loop-i.answers.items) (external_by command answer) inv.uses c.in_ok-answer.ensures.uses));
@@ -75,6 +81,9 @@ returns-clause-told g c =
     let out = c.loop-i-test.false in
     run-tells g.P.Naming.size g.P.Naming.limit boxes p commands c.loop-i.answers.items c.loop-i.names seat c.loop-i.w
     (subst (λ (z : List Command). HasRun g.P.Naming.size g.P.Naming.limit boxes p z c.loop-i.answers.items c.loop-i.names seat c.loop-i.w) (take_all c.loop-i.i commands (omega arith)) inv.ran)
+
+pub returns-clause-caused : goal.returns-clause-caused
+returns-clause-caused g c = c.loop-i.invariant.caused
 
 pub returns-clause-slots : goal.returns-clause-slots
 returns-clause-slots g c = c.loop-i.invariant.uses.slots

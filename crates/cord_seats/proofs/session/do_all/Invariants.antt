@@ -4,6 +4,7 @@ use Rattle.cord_board.specs.Passes.{board_view, IsOn}
 use Rattle.cord_board.specs.Views.{entries_left, session_of, mine_of, IsSession}
 use Rattle.cord_commands.specs.Accounts.{trees_in}
 use Rattle.cord_commands.specs.Slots.{Uses}
+use Rattle.cord_seats.specs.Causes.{AreCaused}
 use Rattle.cord_seats.specs.Entries.{entries_for_all}
 use Rattle.cord_seats.specs.Seats.{StaysSteady}
 use Rattle.cord_seats.specs.Told.{externals_by}
@@ -18,6 +19,7 @@ invariant-loop-i g l = record {
   left : entries_for_all (drop l.i l.commands) ≤ entries_left (board_view l.seat);
   room : length l.commands ≤ vec_capacity l.answers;
   ran : HasRun g.P.Naming.size g.P.Naming.limit (length l.initial.w.unused) (session_of (board_view l.initial.seat)) (take l.i l.commands) l.answers.items l.names (board_view l.seat) l.w;
+  caused : AreCaused g.P.Naming.size g.P.Naming.limit l.initial.w l.w l.answers.items;
   uses : Uses l.initial.w l.w (externals_by (take l.i l.commands) l.answers.items);
   steady : StaysSteady l.initial.w l.w (trees_in l.initial.names) (trees_in l.names) (mine_of (board_view l.initial.seat)) (mine_of (board_view l.seat));
 }
