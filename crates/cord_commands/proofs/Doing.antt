@@ -141,6 +141,15 @@ Shows size (errors.NoNumber seen) v w = (seen ≡ size) × SawAll size v w
 Shows size (errors.NoReleaser used) v w = v.unused ≡ []
 Shows size _ v w = Unit {0}
 
+-- a counted step found the limit reached, and nothing else was done
+abbrev pub ShowsLimit : ℕ → CordError → View → View → Type 0
+ShowsLimit limit (errors.PassLimit found) v w = IsBalanced limit (errors.PassLimit found) v w
+ShowsLimit limit _ v w = Unit {0}
+
+pub balanced-shows : (limit : ℕ) (x : CordError) (v w : View) → IsBalanced limit x v w → ShowsLimit limit x v w
+balanced-shows limit (errors.PassLimit found) v w balanced = balanced
+balanced-shows limit x v w balanced = tt
+
 pub some-answer : (x y : Answer) → (let o : Option Answer = Some x in let p : Option Answer = Some y in o ≡ p) → x ≡ y
 some-answer x y e = cc
 
@@ -163,7 +172,8 @@ module _ (size limit : ℕ) (old new : Names CordView) (v w : View) (command : C
     cause = cause;
   })
 
-  pub refused-does : (x : CordError) (answer : Answer) → (AreFormed old → Refuses size limit d x) → Shows size x v w → IsBalanced limit x v w → Some answer ≡ refusal_of x → Does size limit old new v w (Plain command) answer
+  pub refused-does : (x : CordError) (answer : Answer) → (AreFormed old → Refuses size limit d x) → Shows size x v w → ShowsLimit limit x v w
+      → Some answer ≡ refusal_of x → Does size limit old new v w (Plain command) answer
   refused-does (errors.HeightLimit height) answer why shows balanced is = subst (Does size limit old new v w (Plain command)) (some-answer Height answer (sym is)) (record {
     formed = formed-same old new same;
     externals = 0;
@@ -200,4 +210,5 @@ made-does size limit old new v m w command choice d s k within r (Err e) formed 
 made-does size limit old new v m w command choice d s k within (Ok c) (Ok answer) formed bytes shape why shows balanced stays unused set =
     subst (Does size limit old new v w (Plain command)) (sym set.1) (does-set size limit old new v w command choice d s c k within set.0 formed bytes shape unused)
 made-does size limit old new v m w command choice d s k within (Err x) (Ok answer) formed bytes shape why shows balanced stays unused set =
-    refused-does size limit old new v w command choice d s k set.0 unused x answer why (subst (λ (z : View). Shows size x v z) (sym stays) shows) (subst (λ (z : View). IsBalanced limit x v z) (sym stays) balanced) set.1
+    refused-does size limit old new v w command choice d s k set.0 unused x answer why
+    (subst (λ (z : View). Shows size x v z) (sym stays) shows) (subst (λ (z : View). ShowsLimit limit x v z) (sym stays) (balanced-shows limit x v m balanced)) set.1

@@ -21,7 +21,6 @@ use Rattle.ordered_names.specs.declared.names.Names.{Names}
 use Rattle.ordered_names.specs.Named.{named}
 use Rattle.cord_value.specs.Changes.{IsRefused, IsCutRefused}
 use Rattle.cord_value.specs.Grown.{IsGrowRefused}
-use Rattle.cord_value.specs.Refusals.{IsBalanced}
 use Rattle.cord_value.specs.declared.refusals.CordError.{CordError}
 use Rattle.cord_value.specs.declared.refusals.CordError.TheVariants as errors
 use Rattle.cord_value.specs.Views.{CordView, IsTreeOf, cord_shape}
@@ -36,10 +35,10 @@ use Rattle.cord_commands.specs.declared.edits.Edit.{Edit}
 use Rattle.cord_commands.specs.declared.edits.Edit.TheVariants.{Add, Double, CutFront, CutBack, SetSum}
 use Rattle.cord_commands.specs.Answers.{ok, refusal_of, IsAnswerTo}
 use Rattle.cord_commands.specs.Does.{Does}
-use Rattle.cord_commands.specs.Edits.{IsEdited, IsEditRefused, IsTextRefused, IsApt, command_of, adding, joining}
+use Rattle.cord_commands.specs.Edits.{IsEdited, IsEditRefused, IsTextRefused, IsBehindBalanced, IsEditBalanced, IsApt, command_of, adding, joining}
 use Rattle.cord_commands.specs.Views.{cord_in, names_of, AreSame, IsSetTo}
 use Rattle.cord_commands.proofs.Comings.{ComesTo, add-comes, add-long, join-comes, join-long, cut_front-comes, cut_front-beyond, cut_back-comes, cut_back-beyond, sum-comes}
-use Rattle.cord_commands.proofs.Doing.{does-told, some-answer, are-bare, found-in}
+use Rattle.cord_commands.proofs.Doing.{ShowsLimit, balanced-shows, does-told, some-answer, are-bare, found-in}
 use Rattle.cord_commands.proofs.Edited.{changes, alters_to, alters, changed-bytes, beside-same, beside-length, set-by, refused-by}
 use Rattle.cord_commands.proofs.Renaming.{set-same}
 
@@ -146,7 +145,8 @@ module _ (size limit : ℕ) (old new : Names CordView) (v w : View) (a : List �
 
   -- ---- refused
   module _ (few : length c.bytes ≤ 2147483647) (same : AreSame old new) where
-    add-refused : (side : Side) (text : Text) (y : CordError) (answer : Answer) → IsGrowRefused size limit side (length (text_bytes text)) c y v w → IsBalanced limit y v w → Some answer ≡ refusal_of y → Does size limit old new v w (Plain (adding side a text)) answer
+    add-refused : (side : Side) (text : Text) (y : CordError) (answer : Answer) → IsGrowRefused size limit side (length (text_bytes text)) c y v w
+        → ShowsLimit limit y v w → Some answer ≡ refusal_of y → Does size limit old new v w (Plain (adding side a text)) answer
     add-refused side text y answer why balanced told =
         let long = beside-length side c.bytes (text_bytes text) in
         let sized = added-size false side (length (text_bytes text)) (cord_shape c) why.0 ∙ sym long in
@@ -154,7 +154,8 @@ module _ (size limit : ℕ) (old new : Names CordView) (v w : View) (a : List �
         (λ all short. add-comes false names all side a text x there short) (λ all over. add-long false names all side a text x there over)
         sized (alters old a c is (with_bytes_added false side (length (text_bytes text))) _ sized (λ e. omega (arith, e, long, why.0))) y answer why.1 balanced told
 
-    double-refused : (side : Side) (y : CordError) (answer : Answer) → 0 < length c.bytes → IsRefused size limit c.tree (doubled false (cord_shape c)) y v w → IsBalanced limit y v w → Some answer ≡ refusal_of y → Does size limit old new v w (Plain (joining side a a)) answer
+    double-refused : (side : Side) (y : CordError) (answer : Answer) → 0 < length c.bytes → IsRefused size limit c.tree (doubled false (cord_shape c)) y v w
+        → ShowsLimit limit y v w → Some answer ≡ refusal_of y → Does size limit old new v w (Plain (joining side a a)) answer
     double-refused side y answer some why balanced told =
         let long = beside-length side c.bytes c.bytes in
         let sized = joined-size false Back (cord_shape c) (cord_shape c) some ∙ sym long in
@@ -163,7 +164,8 @@ module _ (size limit : ℕ) (old new : Names CordView) (v w : View) (a : List �
         (λ all over. join-long false names all side a a x x there there over)
         sized (alters old a c is (doubled false) _ sized (λ e. omega (arith, e, long, some))) y answer why balanced told
 
-    front-refused : (n : ℕ) (y : CordError) (answer : Answer) → 0 < n → n ≤ length c.bytes → IsRefused size limit c.tree (front_cut n (cord_shape c)) y v w → IsBalanced limit y v w → Some answer ≡ refusal_of y → Does size limit old new v w (Plain (commands.CutFront a n)) answer
+    front-refused : (n : ℕ) (y : CordError) (answer : Answer) → 0 < n → n ≤ length c.bytes → IsRefused size limit c.tree (front_cut n (cord_shape c)) y v w
+        → ShowsLimit limit y v w → Some answer ≡ refusal_of y → Does size limit old new v w (Plain (commands.CutFront a n)) answer
     front-refused n y answer some within why balanced told =
         let long = length-drop n c.bytes in
         let sized = front-size n (cord_shape c) some ∙ sym long in
@@ -171,7 +173,8 @@ module _ (size limit : ℕ) (old new : Names CordView) (v w : View) (a : List �
         (λ all short. cut_front-comes false names all a n x there within) (λ all over. absurd (omega (arith, over, long, few)))
         sized (alters old a c is (front_cut n) _ sized (λ e. omega (arith, e, long, some, within))) y answer why balanced told
 
-    back-refused : (n : ℕ) (y : CordError) (answer : Answer) → 0 < n → n ≤ length c.bytes → IsRefused size limit c.tree (back_cut false n (cord_shape c)) y v w → IsBalanced limit y v w → Some answer ≡ refusal_of y → Does size limit old new v w (Plain (commands.CutBack a n)) answer
+    back-refused : (n : ℕ) (y : CordError) (answer : Answer) → 0 < n → n ≤ length c.bytes → IsRefused size limit c.tree (back_cut false n (cord_shape c)) y v w
+        → ShowsLimit limit y v w → Some answer ≡ refusal_of y → Does size limit old new v w (Plain (commands.CutBack a n)) answer
     back-refused n y answer some within why balanced told =
         let kept : length (take (length c.bytes - n) c.bytes) ≡ length c.bytes - n = (let t = length-take (length c.bytes - n) c.bytes in omega (arith, t)) in
         let sized = back-size false n (cord_shape c) some ∙ sym kept in
@@ -179,42 +182,60 @@ module _ (size limit : ℕ) (old new : Names CordView) (v w : View) (a : List �
         (λ all short. cut_back-comes false names all a n x there within) (λ all over. absurd (omega (arith, over, kept, few)))
         sized (alters old a c is (back_cut false n) _ sized (λ e. omega (arith, e, kept, some, within))) y answer why balanced told
 
-    sum-refused : (value : ℕ) (y : CordError) (answer : Answer) → 0 < length c.bytes → IsRefused size limit c.tree (shapes.with_sum value (cord_shape c)) y v w → IsBalanced limit y v w → Some answer ≡ refusal_of y → Does size limit old new v w (Plain (commands.SetSum a value)) answer
+    sum-refused : (value : ℕ) (y : CordError) (answer : Answer) → 0 < length c.bytes → IsRefused size limit c.tree (shapes.with_sum value (cord_shape c)) y v w
+        → ShowsLimit limit y v w → Some answer ≡ refusal_of y → Does size limit old new v w (Plain (commands.SetSum a value)) answer
     sum-refused value y answer some why balanced told =
         refused-by size limit old new v w a c is same unused (commands.SetSum a value) (shapes.with_sum value) c.bytes true _
         (λ all short. sum-comes false names all a value x there some) (λ all over. absurd (omega (arith, over, few)))
         refl refl y answer why balanced told
 
-    front-cut : (n : ℕ) (y : CordError) (answer : Answer) → IsCutRefused size limit n c (front_cut n (cord_shape c)) y v w → IsBalanced limit y v w → Some answer ≡ refusal_of y → Does size limit old new v w (Plain (commands.CutFront a n)) answer
+    front-cut : (n : ℕ) (y : CordError) (answer : Answer) → IsCutRefused size limit n c (front_cut n (cord_shape c)) y v w → ShowsLimit limit y v w
+        → Some answer ≡ refusal_of y → Does size limit old new v w (Plain (commands.CutFront a n)) answer
     front-cut n (errors.Position asked end) answer why balanced told = subst (Does size limit old new v w (Plain (commands.CutFront a n))) (some-answer (Told (replies.Position asked end)) answer (sym told))
         (subst (λ (z : ℕ × ℕ). Does size limit old new v w (Plain (commands.CutFront a n)) (Told (replies.Position z.0 z.1))) (λ i. (sym why.0 i, sym why.1 i))
         (does-told size limit old new v w (commands.CutFront a n) false (replies.Position n (length c.bytes)) (λ whole. cut_front-beyond false names (are-bare old whole) a n x there (omega (arith, why.0, why.1, why.2))) tt same unused))
     front-cut n y answer why balanced told = front-refused n y answer why.0 why.1 why.2 balanced told
 
-    back-cut : (n : ℕ) (y : CordError) (answer : Answer) → IsCutRefused size limit n c (back_cut false n (cord_shape c)) y v w → IsBalanced limit y v w → Some answer ≡ refusal_of y → Does size limit old new v w (Plain (commands.CutBack a n)) answer
+    back-cut : (n : ℕ) (y : CordError) (answer : Answer) → IsCutRefused size limit n c (back_cut false n (cord_shape c)) y v w → ShowsLimit limit y v w
+        → Some answer ≡ refusal_of y → Does size limit old new v w (Plain (commands.CutBack a n)) answer
     back-cut n (errors.Position asked end) answer why balanced told = subst (Does size limit old new v w (Plain (commands.CutBack a n))) (some-answer (Told (replies.Position asked end)) answer (sym told))
         (subst (λ (z : ℕ × ℕ). Does size limit old new v w (Plain (commands.CutBack a n)) (Told (replies.Position z.0 z.1))) (λ i. (sym why.0 i, sym why.1 i))
         (does-told size limit old new v w (commands.CutBack a n) false (replies.Position n (length c.bytes)) (λ whole. cut_back-beyond false names (are-bare old whole) a n x there (omega (arith, why.0, why.1, why.2))) tt same unused))
     back-cut n y answer why balanced told = back-refused n y answer why.0 why.1 why.2 balanced told
 
-    text-refused : (side : Side) (text : Text) (y : CordError) (answer : Answer) → IsTextRefused size limit side (length (text_bytes text)) c y v w → IsBalanced limit y v w → Some answer ≡ refusal_of y → Does size limit old new v w (Plain (adding side a text)) answer
+    text-refused : (side : Side) (text : Text) (y : CordError) (answer : Answer) → IsTextRefused size limit side (length (text_bytes text)) c y v w
+        → ShowsLimit limit y v w → Some answer ≡ refusal_of y → Does size limit old new v w (Plain (adding side a text)) answer
     text-refused side text errors.Memory answer why balanced told = cc
     text-refused side text y answer why balanced told = add-refused side text y answer why balanced told
 
-    pub edit-refused : (by : Edit) → IsApt old a by → (y : CordError) (answer : Answer) → IsEditRefused size limit by c y v w → IsBalanced limit y v w → Some answer ≡ refusal_of y → Does size limit old new v w (Plain (command_of a by)) answer
+    pub edit-refused : (by : Edit) → IsApt old a by → (y : CordError) (answer : Answer) → IsEditRefused size limit by c y v w → ShowsLimit limit y v w
+        → Some answer ≡ refusal_of y → Does size limit old new v w (Plain (command_of a by)) answer
     edit-refused (Add text side) apt y answer why balanced told = text-refused side text.now y answer why balanced told
     edit-refused (Double side) apt y answer why balanced told = double-refused side y answer why.0 why.1 balanced told
     edit-refused (CutFront n) apt y answer why balanced told = front-cut n y answer why balanced told
     edit-refused (CutBack n) apt y answer why balanced told = back-cut n y answer why balanced told
     edit-refused (SetSum value) apt y answer why balanced told = sum-refused value y answer (apt c is) why balanced told
 
+-- ---- what a refused edit shows
+behind-shows : (limit : ℕ) (x : CordError) (v w : View) → IsBehindBalanced limit x v w → ShowsLimit limit x v w
+behind-shows limit (errors.PassLimit found) v w balanced = balanced
+behind-shows limit x v w balanced = tt
+
+edit-shows : (limit : ℕ) (by : Edit) (x : CordError) (v w : View) → IsEditBalanced limit by x v w → ShowsLimit limit x v w
+edit-shows limit (Add text Front) x v w balanced = balanced-shows limit x v w balanced
+edit-shows limit (Add text Back) x v w balanced = behind-shows limit x v w balanced
+edit-shows limit (Double side) x v w balanced = balanced-shows limit x v w balanced
+edit-shows limit (CutFront n) x v w balanced = balanced-shows limit x v w balanced
+edit-shows limit (CutBack n) x v w balanced = balanced-shows limit x v w balanced
+edit-shows limit (SetSum value) x v w balanced = balanced-shows limit x v w balanced
+
 -- an edit and its answer
 pub edit-does : (size limit : ℕ) (old new : Names CordView) (v w : View) (a : List ℕ) (c c' : CordView) (by : Edit) → named old a ≡ Some c → IsSetTo old new a c' → w.unused ≡ v.unused → IsApt old a by
     → IsTreeOf c'.bytes c'.tree → length c'.bytes ≤ 2147483647 → length c.bytes ≤ 2147483647 → (r : Result (Unit {0}) CordError) (res : Result Answer AllocError)
-    → IfOk r (λ _. IsEdited by c c') → IfErr r (λ y. IsEditRefused size limit by c y v w) → IfErr r (λ y. IsBalanced limit y v w) → OnErr r (c' ≡ c) → IfOk res (λ answer. IsAnswerTo r answer)
+    → IfOk r (λ _. IsEdited by c c') → IfErr r (λ y. IsEditRefused size limit by c y v w) → IfErr r (λ y. IsEditBalanced limit by y v w) → OnErr r (c' ≡ c) → IfOk res (λ answer. IsAnswerTo r answer)
     → IfOk res (λ answer. Does size limit old new v w (Plain (command_of a by)) answer)
 edit-does size limit old new v w a c c' by is set unused apt formed short few r (Err e) edited refused balanced same told = tt
 edit-does size limit old new v w a c c' by is set unused apt formed short few (Ok u) (Ok answer) edited refused balanced same told =
     subst (Does size limit old new v w (Plain (command_of a by))) (sym told) (edit-done size limit old new v w a c c' is set unused formed short by apt edited)
 edit-does size limit old new v w a c c' by is set unused apt formed short few (Err y) (Ok answer) edited refused balanced same told =
-    edit-refused size limit old new v w a c c' is set unused few (set-same old new a c c' is same set) by apt y answer refused balanced told
+    edit-refused size limit old new v w a c c' is set unused few (set-same old new a c c' is same set) by apt y answer refused (edit-shows limit by y v w balanced) told

@@ -16,7 +16,6 @@ use Rattle.pool_rule.specs.Views.{View}
 use Rattle.ordered_names.specs.declared.names.Names.{Names}
 use Rattle.ordered_names.specs.Named.{named}
 use Rattle.cord_value.specs.Changes.{IsRefused}
-use Rattle.cord_value.specs.Refusals.{IsBalanced}
 use Rattle.cord_value.specs.declared.refusals.CordError.{CordError}
 use Rattle.cord_value.specs.declared.refusals.CordError.TheVariants as errors
 use Rattle.cord_value.specs.Views.{CordView, IsTreeOf, cord_shape}
@@ -32,7 +31,7 @@ use Rattle.cord_commands.specs.Bare.{AreBare}
 use Rattle.cord_commands.specs.Does.{Does}
 use Rattle.cord_commands.specs.Views.{names_of, AreSame, IsSetTo}
 use Rattle.cord_commands.proofs.Comings.{ComesTo, Answers}
-use Rattle.cord_commands.proofs.Doing.{does-set, does-told, refused-does, some-answer, are-bare}
+use Rattle.cord_commands.proofs.Doing.{ShowsLimit, does-set, does-told, refused-does, some-answer, are-bare}
 use Rattle.cord_commands.proofs.Refused.{copied-shape}
 
 abbrev pub changes : steps.Names → List ℕ → Bool → CordShape → Doing
@@ -99,7 +98,8 @@ module _ (size limit : ℕ) (old new : Names CordView) (v w : View) (a : List �
     short-bytes : (F (cord_shape c)).size ≤ 2147483647 → length bytes ≤ 2147483647
     short-bytes fits = omega (arith, sized, fits)
 
-    pub refused-by : (x : CordError) (answer : Answer) → IsRefused size limit c.tree (F (cord_shape c)) x v w → IsBalanced limit x v w → Some answer ≡ refusal_of x → Does size limit old new v w (Plain command) answer
+    pub refused-by : (x : CordError) (answer : Answer) → IsRefused size limit c.tree (F (cord_shape c)) x v w → ShowsLimit limit x v w → Some answer ≡ refusal_of x
+        → Does size limit old new v w (Plain command) answer
     refused-by (errors.LengthLimit asked) answer why balanced told = subst (Does size limit old new v w (Plain command)) (some-answer (Told (replies.Length asked)) answer (sym told))
         (subst (λ (n : ℕ). Does size limit old new v w (Plain command) (Told (replies.Length n))) (sym (why.0 ∙ sized))
         (does-told size limit old new v w command false (replies.Length (length bytes)) (λ whole. long (are-bare old whole) (omega (arith, why.0, why.1, sized))) tt same unused))

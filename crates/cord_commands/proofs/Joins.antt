@@ -31,7 +31,7 @@ use Rattle.cord_commands.specs.Edits.{joining}
 use Rattle.cord_commands.specs.Views.{cord_in, names_of, AreSame, IsSetTo}
 use Rattle.cord_commands.proofs.Absent.{told-does}
 use Rattle.cord_commands.proofs.Comings.{Answers, ComesTo, join-comes, join-long, join-unset, unset-answers}
-use Rattle.cord_commands.proofs.Doing.{are-bare, does-told, found-in, none-in}
+use Rattle.cord_commands.proofs.Doing.{balanced-shows, are-bare, does-told, found-in, none-in}
 use Rattle.cord_commands.proofs.Edited.{changes, alters_to, alters, changed-bytes, beside-same, beside-length, set-by, refused-by}
 use Rattle.cord_commands.proofs.EditLaws.{joined-size}
 use Rattle.cord_commands.proofs.Refused.{copied-shape}
@@ -98,7 +98,7 @@ module _ (size limit : ℕ) (old new : Names CordView) (v w : View) (side : Side
       let sized = joined-size false side (cord_shape d) (cord_shape c) some ∙ sym long in
       refused-by size limit old new v w a c is same unused (joining side a b) (with_cord_added false side (cord_shape d)) (beside side c.bytes d.bytes) _ _
       (λ all short. comes false short all) (λ all over. join-long false names all side a b x y (found-in old a c is) (found-in old b d also) over)
-      sized (alters old a c is (with_cord_added false side (cord_shape d)) _ sized (λ n. omega (arith, n, long, some))) e answer why balanced told
+      sized (alters old a c is (with_cord_added false side (cord_shape d)) _ sized (λ n. omega (arith, n, long, some))) e answer why (balanced-shows limit e v w balanced) told
 
   pub join-does : IsSetTo old new a c' → IsTreeOf c'.bytes c'.tree → length c'.bytes ≤ 2147483647 → (r : Result (Unit {0}) CordError) (res : Result Answer AllocError)
       → IfOk r (λ _. c'.bytes ≡ beside side c.bytes d.bytes) → IfOk r (λ _. IsCordAdded side (cord_shape d) (cord_shape c) (cord_shape c'))

@@ -1,5 +1,6 @@
 -- The lemmas of this crate.
 pub mod Steady
+pub mod Behind
 pub mod Renaming
 pub mod Spelling
 pub mod Stepping

@@ -7,7 +7,9 @@ use Rattle.pool_rule.specs.Views.{View}
 use Rattle.pool_rule.proofs.Gains.{gained-same, gained-then}
 use Rattle.pool_rule.proofs.Trades.{trade, Trades-same}
 use Rattle.node_forest.specs.declared.side.Side.{Side}
+use Rattle.node_forest.specs.declared.side.Side.TheVariants.{Back}
 use Rattle.cord_value.specs.Changes.{IsChange}
+use Rattle.cord_value.specs.Filling.{HasLooked, IsGrownAfter, IsBalancedAfter}
 use Rattle.cord_value.specs.Grown.{IsGrown}
 use Rattle.cord_value.specs.Views.{CordView, no_cord, passes_of, nodes_of}
 use Rattle.cord_value.specs.Workers.{Keeps, KeepsCount}
@@ -107,6 +109,24 @@ changed-steady limit most old new v w (Err x) k b s = steady-as v w (trees_of ol
 pub grown-steady : (limit n : ℕ) (side : Side) (old new : CordView) (v w : View) (r : Result (Unit {0}) CordError) → IfOk r (λ _. IsGrown limit side n old new v w) → IfErr r (λ x. IsBalanced limit x v w) → OnErr r (new ≡ old) → IsSteady v w (trees_of old) (trees_of new)
 grown-steady limit n side old new v w (Ok x) k b s = keeps-steady limit k.numbers _ _ (trees_of old) (trees_of new) v w k.keeps (omega arith)
 grown-steady limit n side old new v w (Err x) k b s = steady-as v w (trees_of old) (trees_of old) (trees_of old) (trees_of new) refl (sym (ap trees_of s)) (balanced-steady limit x v w (trees_of old) b)
+
+-- ---- looks first
+looked-steady : (v w : View) (n : ℕ) → HasLooked v w → IsSteady v w n n
+looked-steady v w n first = record {
+  holds = first.holds;
+  grew = record { gain = record no_gain { looks = first.looks }; is = first.gained };
+  idle = refl;
+  accounts = (let m = ap (λ (z : View). z.made) first.gained in let n = ap (λ (z : View). z.ended) first.gained in omega arith);
+}
+
+looked-then : (v m w : View) (a b : ℕ) → HasLooked v m → IsSteady m w a b → IsSteady v w a b
+looked-then v m w a b first then = steady-then v m w a a b (looked-steady v m a first) then
+
+pub filled-steady : (limit n : ℕ) (old new : CordView) (v w : View) (r : Result (Unit {0}) CordError) → IfOk r (λ _. IsGrownAfter limit n old new v w)
+    → IfErr r (λ x. IsBalancedAfter limit x v w) → OnErr r (new ≡ old)
+    → IsSteady v w (trees_of old) (trees_of new)
+filled-steady limit n old new v w (Ok x) k b s = looked-then v k.looked w (trees_of old) (trees_of new) k.first (grown-steady limit n Back old new k.looked w (Ok x) k.grown b s)
+filled-steady limit n old new v w (Err x) k b s = looked-then v b.looked w (trees_of old) (trees_of new) b.first (grown-steady limit n Back old new b.looked w (Err x) k b.balanced s)
 
 -- a part that was made, or refused
 pub part-steady : (limit most : ℕ) (v w : View) (r : Result CordView CordError) → IfOk r (λ c. IsChange limit most no_cord c v w) → IfErr r (λ x. IsBalanced limit x v w) → IsSteady v w 0 (trees_made r)

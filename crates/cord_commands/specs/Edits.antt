@@ -13,10 +13,12 @@ use Rattle.pool_rule.specs.Views.{View}
 use Rattle.ordered_names.specs.declared.names.Names.{Names}
 use Rattle.ordered_names.specs.Named.{named}
 use Rattle.cord_value.specs.Changes.{IsRefused, IsCutRefused}
+use Rattle.cord_value.specs.Filling.{IsBalancedAfter}
 use Rattle.cord_value.specs.Grown.{IsGrowRefused}
+use Rattle.cord_value.specs.Refusals.{IsBalanced}
 use Rattle.cord_value.specs.Views.{CordView, cord_shape}
 use Rattle.cord_value.specs.declared.refusals.CordError.{CordError}
-use Rattle.cord_value.specs.declared.refusals.CordError.TheVariants.{Memory}
+use Rattle.cord_value.specs.declared.refusals.CordError.TheVariants.{PassLimit, Memory}
 use Rattle.cord_commands.specs.declared.edits.Edit.{Edit}
 use Rattle.cord_commands.specs.declared.edits.Edit.TheVariants.{Add, Double, CutFront, CutBack, SetSum}
 
@@ -40,6 +42,19 @@ IsEditRefused size limit (Double side) old x v w = (0 < length old.bytes) × IsR
 IsEditRefused size limit (CutFront n) old x v w = IsCutRefused size limit n old (front_cut n (cord_shape old)) x v w
 IsEditRefused size limit (CutBack n) old x v w = IsCutRefused size limit n old (back_cut false n (cord_shape old)) x v w
 IsEditRefused size limit (SetSum value) old x v w = IsRefused size limit old.tree (shapes.with_sum value (cord_shape old)) x v w
+
+-- What a refusal leaves. Bytes that are to go behind the others may first have a tree looked through; a cord that wants a pass has no tree.
+abbrev pub IsBehindBalanced : ℕ → CordError → View → View → Type 0
+IsBehindBalanced limit (PassLimit found) v w = IsBalanced limit (PassLimit found) v w
+IsBehindBalanced limit x v w = IsBalancedAfter limit x v w
+
+abbrev pub IsTextBalanced : ℕ → Side → CordError → View → View → Type 0
+IsTextBalanced limit Front x v w = IsBalanced limit x v w
+IsTextBalanced limit Back x v w = IsBehindBalanced limit x v w
+
+abbrev pub IsEditBalanced : ℕ → Edit → CordError → View → View → Type 0
+IsEditBalanced limit (Add text side) x v w = IsTextBalanced limit side x v w
+IsEditBalanced limit _ x v w = IsBalanced limit x v w
 
 -- ---- the command of an edit on the cord of a
 abbrev pub adding : Side → List ℕ → Text → Command

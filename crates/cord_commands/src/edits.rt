@@ -1,12 +1,13 @@
 //! Changes of one cord.
 ghost use Rattle.std.specs.Prelude.{◌≡◌, ◌≤◌, ◌++◌, length, IfOk, IfErr, OnErr};
+ghost use Rattle.node_forest.specs.declared.side.Side.TheVariants as sides;
 ghost use Rattle.plain_cord.specs.Texts.{text_bytes};
 ghost use Rattle.tree_shapes.specs.Cords.{IsBytesAdded};
 ghost use Rattle.tree_shapes.specs.Growth.{beside};
-ghost use Rattle.cord_value.specs.Refusals.{IsBalanced};
+ghost use Rattle.cord_value.specs.Grown.{IsGrowRefused};
 ghost use Rattle.cord_value.specs.Views.{cord_shape};
 ghost use Rattle.cord_commands.specs.Accounts.{trees_of, IsSteady};
-ghost use Rattle.cord_commands.specs.Edits.{IsEdited, IsEditRefused, IsTextRefused};
+ghost use Rattle.cord_commands.specs.Edits.{IsEdited, IsEditRefused, IsTextRefused, IsBehindBalanced, IsTextBalanced, IsEditBalanced};
 
 use crate::texts::TextBytes;
 use cord_port::Releaser;
@@ -39,7 +40,7 @@ pub fn apply<P: Naming, B: Releaser>(
     ensures steady { IsSteady w.old w.new (trees_of cord.old) (trees_of cord.new) }
     ensures edited { IfOk result (λ _. IsEdited change.entry cord.old cord.new) }
     ensures refused { IfErr result (λ x. IsEditRefused P.size P.limit change.entry cord.old x w.old w.new) }
-    ensures balanced { IfErr result (λ x. IsBalanced P.limit x w.old w.new) }
+    ensures balanced { IfErr result (λ x. IsEditBalanced P.limit change.entry x w.old w.new) }
     ensures same { OnErr result (cord.new ≡ cord.old) }
 {
     match change {
@@ -65,7 +66,7 @@ fn add_text<P: Naming, B: Releaser>(
     ensures bytes { IfOk result (λ _. cord.new.bytes ≡ beside side cord.old.bytes (text_bytes text.now)) }
     ensures shape { IfOk result (λ _. IsBytesAdded side (length (text_bytes text.now)) (cord_shape cord.old) (cord_shape cord.new)) }
     ensures refused { IfErr result (λ x. IsTextRefused P.size P.limit side (length (text_bytes text.now)) cord.old x w.old w.new) }
-    ensures balanced { IfErr result (λ x. IsBalanced P.limit x w.old w.new) }
+    ensures balanced { IfErr result (λ x. IsTextBalanced P.limit side x w.old w.new) }
     ensures same { OnErr result (cord.new ≡ cord.old) }
 {
     let Ok(bytes) = TextBytes::of_text(alloc, text) else {
@@ -73,6 +74,29 @@ fn add_text<P: Naming, B: Releaser>(
     };
     match side {
         Side::Front => cord.prepend_bytes(alloc, pool, w, bytes.as_slice()),
-        Side::Back => cord.append_bytes(alloc, pool, w, bytes.as_slice()),
+        Side::Back => add_behind(alloc, pool, w, cord, bytes.as_slice()),
+    }
+}
+
+// Adds bytes behind. Only a tree has a last flat whose room may take them, so that a cord without one makes no look.
+fn add_behind<P: Naming, B: Releaser>(
+    alloc: Global,
+    pool: &Pool<P, B>,
+    w: &mut Worker<P>,
+    cord: &mut Cord<P>,
+    bytes: &[u8],
+) -> Result<(), CordError>
+    requires room { length w.old.holds ≤ 96 }
+    ensures steady { IsSteady w.old w.new (trees_of cord.old) (trees_of cord.new) }
+    ensures bytes { IfOk result (λ _. cord.new.bytes ≡ cord.old.bytes ++ bytes.now) }
+    ensures shape { IfOk result (λ _. IsBytesAdded sides.Back (length bytes.now) (cord_shape cord.old) (cord_shape cord.new)) }
+    ensures refused { IfErr result (λ x. IsGrowRefused P.size P.limit sides.Back (length bytes.now) cord.old x w.old w.new) }
+    ensures balanced { IfErr result (λ x. IsBehindBalanced P.limit x w.old w.new) }
+    ensures same { OnErr result (cord.new ≡ cord.old) }
+{
+    if cord.is_tree() {
+        cord.append_filling(alloc, pool, w, bytes)
+    } else {
+        cord.append_bytes(alloc, pool, w, bytes)
     }
 }

@@ -1,17 +1,15 @@
 -- Bytes are added at a side, or there was no memory for them.
 use Rattle.std.proofs.Common.{refl}
 use Rattle.node_forest.specs.declared.side.Side.TheVariants as sides
-use Rattle.cord_commands.proofs.Steady.{same-steady, grown-steady, balanced-none}
+use Rattle.cord_commands.proofs.Behind.{none-balanced}
+use Rattle.cord_commands.proofs.Steady.{same-steady, grown-steady}
 use Rattle.cord_commands.proofs.edits.add_text.Goals as goal
 
 pub returns-in_default-clause-steady : goal.returns-in_default-clause-steady
 returns-in_default-clause-steady g c = same-steady _ _ _ refl
 
 pub returns-in_default-clause-balanced : goal.returns-in_default-clause-balanced
-returns-in_default-clause-balanced g c = balanced-none g.P.Naming.limit c.args.w.now
+returns-in_default-clause-balanced g c = none-balanced g.P.Naming.limit c.args.side c.args.w.now
 
 pub returns-in-Front-clause-steady : goal.returns-in-Front-clause-steady
 returns-in-Front-clause-steady g c = let e = c.prepend_bytes.ensures in grown-steady g.P.Naming.limit _ sides.Front _ _ _ _ c.prepend_bytes.result e.grown e.balanced e.same
-
-pub returns-clause-steady : goal.returns-clause-steady
-returns-clause-steady g c = let e = c.append_bytes.ensures in grown-steady g.P.Naming.limit _ sides.Back _ _ _ _ c.append_bytes.result e.grown e.balanced e.same
