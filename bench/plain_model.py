@@ -5,11 +5,12 @@ import re
 
 ESCAPES = {b'"': b'"', b"\\": b"\\", b"n": b"\n"}
 ESCAPE = re.compile(rb"\\(x[0-9a-f]{2}|.)")
-WITH_TEXT = {b"let", b"append", b"prepend", b"find", b"starts", b"ends"}
+WITH_TEXT = {b"let", b"ext", b"append", b"prepend", b"find", b"starts", b"ends"}
 ON_CELLS = {b"put", b"take", b"peek", b"swap"}
 OPTIONS = {b"pool", b"passes"}
 MOST_BYTES = 2147483647
 MOST_SHOWN = 4096
+MOST_EXTERNALS = 16
 
 
 def unescaped(match):
@@ -35,7 +36,7 @@ def quoted(text):
 
 
 class Session:
-    """One session: its names' cords and sums, the board's cells, which all sessions share, and how often it acted on one."""
+    """One session: its names' cords and sums, the board's cells, which all sessions share, how often it acted on one, and how many externals it made."""
 
     def __init__(self, name, cells):
         self.name = name
@@ -43,6 +44,7 @@ class Session:
         self.cords = {}
         self.sums = {}
         self.acted = 0
+        self.externals = 0
 
     def set(self, name, text, expected=None):
         self.cords[name] = text
@@ -91,6 +93,11 @@ class Session:
 
     def answer(self, word, rest):
         if word == b"let":
+            return self.set(rest[0], text_of(rest[1]))
+        if word == b"ext":
+            if self.externals == MOST_EXTERNALS:
+                return "! releasers"
+            self.externals += 1
             return self.set(rest[0], text_of(rest[1]))
         names = [rest[0], rest[1]] if word in (b"join", b"joinfront", b"compare") else [rest[0]]
         for name in names:
