@@ -2,6 +2,7 @@
 #![tactic(auto)]
 
 mod asked;
+mod boxes;
 mod buffered;
 mod ending;
 mod feeding;
@@ -13,6 +14,7 @@ mod telling;
 mod tests;
 mod top;
 
+pub use boxes::new_boxes;
 pub use buffered::{Served, run_buffered};
 pub use cord_seats::{BoardCord, run_session};
 pub use ending::{Ending, MOST_SCRIPT};

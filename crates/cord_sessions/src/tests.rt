@@ -1,4 +1,6 @@
 //! Scripts whose whole output is known from the rules of the language, and the ends of a call when the outside fails.
+ghost use Rattle.std.specs.Prelude.{◌≡◌, IfOk};
+
 use super::*;
 use cord_port::{CountReleaser, Failed, Gate, MemorySink, MemorySource, Releaser, Sink};
 use std::alloc::{AllocError, Global};
@@ -538,10 +540,14 @@ fn other_words_get_the_usage_line_and_releasers_come_back(rt: HostRuntime) -> Re
         for word in words {
             given.push(String::from_str(rt.alloc(), word)?)?;
         }
-        let mut boxes: Vec<Box<dyn Releaser + Send>> = Vec::new(rt.alloc());
-        for _ in 0..2 {
-            boxes.push(Box::new(rt.alloc(), CountReleaser::new())?)?;
-        }
+        let alloc = rt.alloc();
+        let boxes = new_boxes(
+            alloc,
+            2,
+            |_: usize| -> Result<Box<dyn Releaser + Send>, AllocError>
+                ensures { IfOk result (λ b. calls_of b ≡ 0) }
+            { Ok(Box::new(alloc, CountReleaser::new())?) },
+        )?;
         let gate = CountingGate::new();
         let mut source = source_of(rt.alloc(), HELLO)?;
         let mut sink = MemorySink::new(rt.alloc(), 128, 128, Vec::new(rt.alloc()))?;
@@ -686,10 +692,13 @@ fn releases<R: Threads + Wait + Abort + Sync>(
     count: u8,
     wanted: &str,
 ) -> Result<Vec<(u64, Option<u64>)>, Fail> {
-    let mut boxes: Vec<Box<dyn Releaser + Send>> = Vec::new(alloc);
-    for _ in 0..count {
-        boxes.push(Box::new(alloc, CountReleaser::new())?)?;
-    }
+    let boxes = new_boxes(
+        alloc,
+        usize::from(count),
+        |_: usize| -> Result<Box<dyn Releaser + Send>, AllocError>
+            ensures { IfOk result (λ b. calls_of b ≡ 0) }
+        { Ok(Box::new(alloc, CountReleaser::new())?) },
+    )?;
     let words = vec![in alloc; String::from_str(alloc, "run")?]?;
     let gate = CountingGate::new();
     let mut source = source_of(alloc, script)?;

@@ -1,5 +1,0 @@
-mod Boards
-pub mod Entries
-mod Lists
-mod Roots
-mod Whole
