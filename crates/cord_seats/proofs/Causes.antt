@@ -1,12 +1,11 @@
 -- Causes, command after command.
-use Rattle.std.proofs.Common.{◌≡◌, ap, refl, ℕ, List, [], ◌∷◌, ◌++◌, length}
+use Rattle.std.proofs.Common.{◌≡◌, refl, ℕ, List, [], ◌∷◌, ◌++◌}
 use Rattle.pool_rule.specs.Gains.{HasGained, no_gain, gain_then}
 use Rattle.pool_rule.specs.Views.{View}
 use Rattle.pool_rule.proofs.Gains.{gained-same, gained-then}
 use Rattle.cord_commands.specs.declared.answer.Answer.{Answer}
 use Rattle.cord_commands.specs.Does.{IsCause}
-use Rattle.cord_seats.specs.Causes.{AreCaused, IsFresh}
-use Rattle.cord_seats.specs.Chairs.{own_slots, IsNew}
+use Rattle.cord_seats.specs.Causes.{AreCaused}
 
 grown-none : (v : View) → HasGained v v
 grown-none v = record { gain = no_gain; is = gained-same v v refl }
@@ -30,7 +29,3 @@ module _ (size limit : ℕ) where
   pub caused-grown : (v w x : View) (answers : List Answer) → AreCaused size limit v w answers → HasGained w x → AreCaused size limit v x answers
   caused-grown v w x [] grew more = grown-then v w x grew more
   caused-grown v w x (a ∷ answers) c more = (c.0, c.1, c.2, c.3, c.4, caused-grown c.1 w x answers c.5 more)
-
--- a new worker made no step
-pub new-fresh : (slots p : ℕ) (w : View) → IsNew slots p w → IsFresh (length (own_slots slots p)) w
-new-fresh slots p w new = record { holds = new.holds; taken = new.taken; full = new.full; counts = new.counts; used = new.used; unused = ap length new.unused }

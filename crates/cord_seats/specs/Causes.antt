@@ -6,8 +6,8 @@ use Rattle.node_pool.specs.Closes.{IsAllIdle, AreCountsWithin, AreTakenByWorkers
 use Rattle.cord_commands.specs.declared.answer.Answer.{Answer}
 use Rattle.cord_commands.specs.Does.{IsCause}
 
--- From v to w the worker's lists only grew, and on the way each answer, in order, shows its cause from a view x to a later one y, in which its
--- command began and ended: each number of the pool found in use, or a counted step that found the limit reached, or no slot left.
+-- From v to w the worker's lists only grew. On the way, in the order of the answers, each one's command went from a view x to a view y, and shows its
+-- cause in what the lists gained between them: each number of the pool found in use, a counted step that found the limit reached, or no slot left.
 abbrev pub AreCaused : ℕ → ℕ → View → View → List Answer → Type 0
 AreCaused size limit v w [] = HasGained v w
 AreCaused size limit v w (answer ∷ more) = (x : View) × (y : View) × HasGained v x × HasGained x y × IsCause size limit x y answer × AreCaused size limit y w more
@@ -15,6 +15,8 @@ AreCaused size limit v w (answer ∷ more) = (x : View) × (y : View) × HasGain
 -- a worker that made no step yet, and has so many slots
 pub record IsFresh (slots : ℕ) (v : View) : Type 0 where
   pub holds : length v.holds ≡ 0
+  pub made : v.made ≡ 0
+  pub ended : v.ended ≡ 0
   pub taken : v.taken ≡ []
   pub full : v.full ≡ []
   pub counts : v.counts ≡ []
@@ -27,8 +29,8 @@ pub record IsShown (size limit slots : ℕ) (w : View) (answers : List Answer) :
   pub fresh : IsFresh slots first
   pub caused : AreCaused size limit first w answers
 
--- The workers of a run, of which the p-th ran the session p, and one more ended the run. Together they took each number that one of them found in
--- use, and made the passes that a counted step of one of them found live; in the end they hold nothing.
+-- The workers of a run at its end: the p-th ran the session p, and one more cleared the cells. They hold nothing, and ended the passes that they
+-- made. Together they took each number that one of them found in use, and what their counted steps found is within the bounds of their steps.
 pub record AreShown (size limit : ℕ) (slots : ℕ → ℕ) (books : List (List Answer)) : Type 0 where
   pub workers : List View
   pub count : length workers ≡ length books + 1
