@@ -10,6 +10,7 @@ pub mod Refused
 pub mod Edited
 pub mod EditLaws
 pub mod Absent
+pub mod Placing
 pub mod Joins
 pub mod Slotted
 pub mod Questions

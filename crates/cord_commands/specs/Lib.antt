@@ -8,3 +8,4 @@ pub mod Asked
 pub mod Slots
 pub mod Bare
 pub mod Does
+pub mod Places

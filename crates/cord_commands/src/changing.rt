@@ -6,6 +6,7 @@ ghost use Rattle.cord_commands.specs.Accounts.{trees_in, IsSteady};
 ghost use Rattle.cord_commands.specs.Answers.{IsAnswerTo};
 ghost use Rattle.cord_commands.specs.Does.{Does};
 ghost use Rattle.cord_commands.specs.Edits.{command_of, IsApt};
+ghost use Rattle.cord_commands.specs.Places.{PlacesEdit};
 ghost use Rattle.cord_steps.specs.Answers.{Plain};
 ghost use Rattle.cord_commands.specs.Views.{AreSame};
 
@@ -43,6 +44,7 @@ pub fn change<P: Naming, B: Releaser>(
     requires apt { IsApt names.old a.now by }
     ensures steady { IsSteady w.old w.new (trees_in names.old) (trees_in names.new) }
     ensures does { IfOk result (λ answer. Does P.size P.limit names.old names.new w.old w.new (Plain (command_of a.now by.entry)) answer) }
+    ensures placed { IfOk result (λ answer. PlacesEdit names.old names.new w.old w.new a.now by.entry answer) }
     ensures same { OnErr result (AreSame names.old names.new) }
 {
     let Some(mut cord) = take_out(names, a) else {

@@ -6,6 +6,7 @@ ghost use Rattle.cord_steps.specs.Whole.{IsWithin};
 ghost use Rattle.cord_steps.specs.Replies.{request_of};
 ghost use Rattle.cord_commands.specs.Accounts.{trees_in, AddsUp, IsSteady};
 ghost use Rattle.cord_commands.specs.Does.{Does};
+ghost use Rattle.cord_commands.specs.Places.{Places};
 ghost use Rattle.cord_commands.specs.Slots.{external_by, SameSlots, Uses};
 ghost use Rattle.cord_commands.specs.Views.{AreSame};
 
@@ -24,6 +25,7 @@ use plain_cord::Command;
 use std::alloc::{AllocError, Global};
 
 /// Does a command that needs no cell of the board. Its error is want of memory; the names are then as before.
+#[tactic(auto, using(crate::proofs::Placing::ok_any))]
 pub fn run_command<'a, P: Naming, B: Releaser>(
     alloc: Global,
     pool: &Pool<P, B>,
@@ -37,6 +39,7 @@ pub fn run_command<'a, P: Naming, B: Releaser>(
     ensures even { AddsUp w.old w.new (trees_in names.old) (trees_in names.new) }
     ensures slots { SameSlots w.old w.new }
     ensures does { IfOk result (λ answer. Does P.size P.limit names.old names.new w.old w.new (request_of command.now) answer) }
+    ensures placed { IfOk result (λ answer. Places names.old names.new w.old w.new command.now answer) }
     ensures uses { IfOk result (λ answer. Uses w.old w.new (external_by command.now answer)) }
     ensures same { OnErr result (AreSame names.old names.new) }
 {
@@ -47,6 +50,7 @@ pub fn run_command<'a, P: Naming, B: Releaser>(
 }
 
 // Does one that needs no box of the session either.
+#[tactic(auto, using(crate::proofs::Placing::ok_any))]
 fn run_own<'a, P: Naming, B: Releaser>(
     alloc: Global,
     pool: &Pool<P, B>,
@@ -60,6 +64,7 @@ fn run_own<'a, P: Naming, B: Releaser>(
     requires own { request_of command.now ≡ Plain command.now }
     ensures steady { IsSteady w.old w.new (trees_in names.old) (trees_in names.new) }
     ensures does { IfOk result (λ answer. Does P.size P.limit names.old names.new w.old w.new (Plain command.now) answer) }
+    ensures placed { IfOk result (λ answer. Places names.old names.new w.old w.new command.now answer) }
     ensures same { OnErr result (AreSame names.old names.new) }
 {
     match command {

@@ -8,6 +8,7 @@ ghost use Rattle.cord_value.specs.Grown.{IsGrowRefused};
 ghost use Rattle.cord_value.specs.Views.{cord_shape};
 ghost use Rattle.cord_commands.specs.Accounts.{trees_of, IsSteady};
 ghost use Rattle.cord_commands.specs.Edits.{IsEdited, IsEditRefused, IsTextRefused, IsBehindBalanced, IsTextBalanced, IsEditBalanced};
+ghost use Rattle.cord_commands.specs.Places.{IsTextPlaced, IsTextShared, IsEditPlaced, IsEditShared};
 
 use crate::texts::TextBytes;
 use cord_port::Releaser;
@@ -29,6 +30,7 @@ pub enum Edit<'b> {
 }
 
 /// Does a change. After a refusal the cord is as before.
+#[tactic(auto, using(crate::proofs::Placing::ok_any, crate::proofs::Placing::err_any))]
 pub fn apply<P: Naming, B: Releaser>(
     alloc: Global,
     pool: &Pool<P, B>,
@@ -39,7 +41,9 @@ pub fn apply<P: Naming, B: Releaser>(
     requires room { length w.old.holds ≤ 96 }
     ensures steady { IsSteady w.old w.new (trees_of cord.old) (trees_of cord.new) }
     ensures edited { IfOk result (λ _. IsEdited change.entry cord.old cord.new) }
+    ensures placed { IfOk result (λ _. IsEditPlaced change.entry cord.old cord.new w.old w.new) }
     ensures refused { IfErr result (λ x. IsEditRefused P.size P.limit change.entry cord.old x w.old w.new) }
+    ensures shared_if_err { IfErr result (λ x. IsEditShared change.entry cord.old x w.old w.new) }
     ensures balanced { IfErr result (λ x. IsEditBalanced P.limit change.entry x w.old w.new) }
     ensures same { OnErr result (cord.new ≡ cord.old) }
 {
@@ -53,6 +57,7 @@ pub fn apply<P: Naming, B: Releaser>(
 }
 
 // Adds the bytes of a text.
+#[tactic(auto, using(crate::proofs::Placing::ok_any, crate::proofs::Placing::err_any))]
 fn add_text<P: Naming, B: Releaser>(
     alloc: Global,
     pool: &Pool<P, B>,
@@ -65,7 +70,9 @@ fn add_text<P: Naming, B: Releaser>(
     ensures steady { IsSteady w.old w.new (trees_of cord.old) (trees_of cord.new) }
     ensures bytes { IfOk result (λ _. cord.new.bytes ≡ beside side cord.old.bytes (text_bytes text.now)) }
     ensures shape { IfOk result (λ _. IsBytesAdded side (length (text_bytes text.now)) (cord_shape cord.old) (cord_shape cord.new)) }
+    ensures placed { IfOk result (λ _. IsTextPlaced side (text_bytes text.now) cord.old cord.new w.old w.new) }
     ensures refused { IfErr result (λ x. IsTextRefused P.size P.limit side (length (text_bytes text.now)) cord.old x w.old w.new) }
+    ensures shared_if_err { IfErr result (λ x. IsTextShared side (text_bytes text.now) cord.old x w.old w.new) }
     ensures balanced { IfErr result (λ x. IsTextBalanced P.limit side x w.old w.new) }
     ensures same { OnErr result (cord.new ≡ cord.old) }
 {
@@ -90,7 +97,9 @@ fn add_behind<P: Naming, B: Releaser>(
     ensures steady { IsSteady w.old w.new (trees_of cord.old) (trees_of cord.new) }
     ensures bytes { IfOk result (λ _. cord.new.bytes ≡ cord.old.bytes ++ bytes.now) }
     ensures shape { IfOk result (λ _. IsBytesAdded sides.Back (length bytes.now) (cord_shape cord.old) (cord_shape cord.new)) }
+    ensures placed { IfOk result (λ _. IsTextPlaced sides.Back bytes.now cord.old cord.new w.old w.new) }
     ensures refused { IfErr result (λ x. IsGrowRefused P.size P.limit sides.Back (length bytes.now) cord.old x w.old w.new) }
+    ensures shared_if_err { IfErr result (λ x. IsTextShared sides.Back bytes.now cord.old x w.old w.new) }
     ensures balanced { IfErr result (λ x. IsBehindBalanced P.limit x w.old w.new) }
     ensures same { OnErr result (cord.new ≡ cord.old) }
 {

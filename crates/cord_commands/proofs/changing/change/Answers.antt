@@ -5,6 +5,7 @@ use Rattle.cord_value.specs.Views.{no_cord}
 use Rattle.cord_commands.proofs.Steady.{stay-steady, steady-shift, steady-unused}
 use Rattle.cord_commands.proofs.Absent.{edit-unset}
 use Rattle.cord_commands.proofs.EditLaws.{edit-does}
+use Rattle.cord_commands.proofs.Placing.{edit-places, unset-places}
 use Rattle.cord_commands.proofs.Renaming.{err-weaker, set-twice, set-same}
 use Rattle.cord_commands.proofs.changing.change.Goals as goal
 
@@ -33,3 +34,13 @@ returns-clause-does g c =
     edit-does g.P.Naming.size g.P.Naming.limit c.args.names.now c.put_back.new.names c.args.w.now c.apply-edited.new.w c.args.a.now c.in-Some.cord c.apply-edited.new.cord c.args.by (sym c.in-Some.ensures.found)
     (set-twice c.args.names.now c.take_out.new.names c.put_back.new.names c.args.a.now no_cord c.apply-edited.new.cord c.in-Some.ensures.lent c.put_back.ensures.set)
     (steady-unused _ _ _ _ e.steady) c.requires.apt c.len-2.ensures.formed c.len-2.ensures.short c.len.ensures.short c.apply-edited.result c.changed.result e.edited e.refused e.balanced e.same c.changed.ensures.answer
+
+pub returns-in_default-clause-placed : goal.returns-in_default-clause-placed
+returns-in_default-clause-placed g c = unset-places c.args.names.now c.take_out.new.names c.args.w.now c.args.w.now c.args.a.now c.args.by c.unset.result (sym c.in_default.ensures.found)
+
+pub returns-clause-placed : goal.returns-clause-placed
+returns-clause-placed g c =
+    let e = c.apply-edited.ensures in
+    edit-places c.args.names.now c.put_back.new.names c.args.w.now c.apply-edited.new.w c.args.a.now c.args.by c.in-Some.cord c.apply-edited.new.cord (sym c.in-Some.ensures.found)
+    (set-twice c.args.names.now c.take_out.new.names c.put_back.new.names c.args.a.now no_cord c.apply-edited.new.cord c.in-Some.ensures.lent c.put_back.ensures.set)
+    c.apply-edited.result c.changed.result e.placed e.shared_if_err c.changed.ensures.answer
