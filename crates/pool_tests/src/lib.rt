@@ -7,6 +7,8 @@ mod calls;
 #[cfg(test)]
 mod changes;
 #[cfg(test)]
+mod filling;
+#[cfg(test)]
 mod flats;
 #[cfg(test)]
 mod marks;
