@@ -24,25 +24,25 @@ module _ (start chunks new : Reading) (filled : ℕ) (piece : List ℕ) (moved :
       ∙ ap (λ t. take filled (left start) ++ t) (next ∙ ap (take (length piece)) rest)
       ∙ sym (take-add filled (length piece) (left start))
 
--- what is seen from the first place on from which the needle goes on behind a chunk of n bytes: all that such a needle may take
-module _ (hay needle seen : List ℕ) (start n from most : ℕ) (some : 0 < length needle) (from_is : from ≡ n + 1 - length needle) (most_is : most ≡ n - from + (length needle - 1))
+-- what is seen from a place on in a chunk of n bytes, behind which the needle goes on from all places: all that such a needle may take
+module _ (hay needle seen : List ℕ) (start n from most : ℕ) (some : 0 < length needle) (low : n + 1 ≤ from + length needle) (within : from ≤ n) (most_is : most ≡ n - from + (length needle - 1))
     (ends : start + n ≤ length hay) (long : length seen ≡ min most (length (drop (start + from) hay))) (is : seen ≡ take (length seen) (drop (start + from) hay)) where
   seen-ends : start + from + length seen ≤ length hay
-  seen-ends = omega (arith, ends, from_is, long, length-drop (start + from) hay, some)
+  seen-ends = omega (arith, ends, within, long, length-drop (start + from) hay, some)
 
   pub over-some : (at : ℕ) → NoneBefore (OccursAt seen needle) 0 (length seen + 1) at → OccursAt seen needle at
-      → NoneBefore (OccursAt hay needle) (start + (n + 1 - length needle)) (start + n) (start + from + at) × OccursAt hay needle (start + from + at)
+      → NoneBefore (OccursAt hay needle) (start + from) (start + n) (start + from + at) × OccursAt hay needle (start + from + at)
   over-some at found occurs =
       let first = first-in hay needle seen (start + from) is seen-ends some at found occurs in (
         record {
-          low = omega (arith, from_is);
-          high = omega (arith, occurs.fits, long, most_is, from_is, some);
-          before = λ k low high. first.before k (omega (arith, low, from_is)) high;
+          low = omega arith;
+          high = omega (arith, occurs.fits, long, most_is, low, within, some);
+          before = λ k least high. first.before k (omega (arith, least)) high;
         },
         occurs-out hay needle seen (start + from) is seen-ends at occurs,
       )
 
-  pub over-none : Nowhere (OccursAt seen needle) 0 (length seen + 1) → Nowhere (OccursAt hay needle) (start + (n + 1 - length needle)) (start + n)
-  over-none none = λ k low high occurs.
-      let fits : k + length needle ≤ start + from + length seen = omega (arith, low, high, occurs.fits, long, most_is, from_is, some, length-drop (start + from) hay) in
-      not-in hay needle seen (start + from) is seen-ends (length seen + 1) none k (omega (arith, low, from_is)) (omega (arith, fits)) fits occurs
+  pub over-none : Nowhere (OccursAt seen needle) 0 (length seen + 1) → Nowhere (OccursAt hay needle) (start + from) (start + n)
+  over-none none = λ k least high occurs.
+      let fits : k + length needle ≤ start + from + length seen = omega (arith, least, high, occurs.fits, long, most_is, within, some, length-drop (start + from) hay) in
+      not-in hay needle seen (start + from) is seen-ends (length seen + 1) none k (omega (arith, least)) (omega (arith, fits)) fits occurs

@@ -34,24 +34,26 @@ fn copy_from(chunks: &mut Chunks<'_>, place: u64, most: usize, room: &mut [u8]) 
     filled
 }
 
-/// The least place in the chunk from which the needle goes on behind the chunk. What lies around the border is copied, and searched in
-/// one go, so that the time is linear in the needle's length.
+/// The least place from `from` on in the chunk from which the needle goes on behind the chunk. What lies around the border is copied, and
+/// searched in one go, so that the time is linear in the needle's length.
 pub(crate) fn over_border(
     finder: &Finder<'_>,
     ahead: &mut Chunks<'_>,
     start: u64,
     chunk: &[u8],
+    from: usize,
     needle: &[u8],
 ) -> Option<u64>
     requires few { length needle.now ≤ 256 }
+    requires behind { length chunk.now + 1 ≤ from + length needle.now }
+    requires within { from ≤ length chunk.now }
     requires some { 0 < length needle.now }
     requires finder { finder.now ≡ needle.now }
     requires ends { start + length chunk.now ≤ length ahead.old.bytes }
     requires short { length ahead.old.bytes < 2147483648 }
-    ensures first { IsFirst (OccursAt ahead.old.bytes needle.now) (start + (length chunk.now + 1 - length needle.now)) (start + length chunk.now) result }
+    ensures first { IsFirst (OccursAt ahead.old.bytes needle.now) (start + from) (start + length chunk.now) result }
     ensures same { SameText ahead.old ahead.new }
 {
-    let from = (chunk.len() + 1).saturating_sub(needle.len());
     let place = start + from as u64;
     let most = chunk.len() - from + (needle.len() - 1);
     let mut window = [0u8; ROOM];

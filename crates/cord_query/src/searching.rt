@@ -57,8 +57,33 @@ fn in_chunk(
     if let Some(at) = finder.find(chunk) {
         return Some(start + at as u64);
     }
+    behind(finder, ahead, size, start, chunk, needle)
+}
+
+/// The least place in the chunk from which the needle goes on behind the chunk. Where its first byte stands at none, no byte is copied.
+fn behind(
+    finder: &Finder<'_>,
+    ahead: &mut Chunks<'_>,
+    size: u64,
+    start: u64,
+    chunk: &[u8],
+    needle: &[u8],
+) -> Option<u64>
+    requires size { size ≡ length ahead.old.bytes }
+    requires some { 0 < length needle.now }
+    requires finder { finder.now ≡ needle.now }
+    requires short { size < 2147483648 }
+    requires ends { start + length chunk.now ≤ size }
+    requires chunk { chunk.now ≡ take (length chunk.now) (drop start ahead.old.bytes) }
+    ensures first { IsFirst (OccursAt ahead.old.bytes needle.now) (start + (length chunk.now + 1 - length needle.now)) (start + length chunk.now) result }
+    ensures same { SameText ahead.old ahead.new }
+{
+    let from = (chunk.len() + 1).saturating_sub(needle.len());
+    let Some(next) = memchr(needle[0], &chunk[from..]) else {
+        return None;
+    };
     if needle.len() <= MOST_COPIED {
-        over_border(finder, ahead, start, chunk, needle)
+        over_border(finder, ahead, start, chunk, from + next, needle)
     } else {
         across(ahead, size, start, chunk, needle)
     }

@@ -11,7 +11,7 @@ returns-in-Some-clause-first c =
     let needle = c.args.needle.now in
     let start = c.args.start in
     let n = length c.args.chunk.now in
-    let from = c.saturating_sub-from.result in
+    let from = c.args.from in
     let most = n - from + (length needle - 1) in
     let filled = c.copy_from-filled.result in
     let seen = take filled c.copy_from-filled.new.room in
@@ -23,7 +23,7 @@ returns-in-Some-clause-first c =
     let found = c.in-Some.ensures in
     let none = subst (λ (t : List ℕ). NoneBefore (OccursAt seen t) 0 (length seen + 1) at) same found.0 in
     let occurs = subst (λ (t : List ℕ). OccursAt seen t at) same found.1 in
-    over-some hay needle seen start n from most c.requires.some c.saturating_sub-from.ensures refl c.requires.ends (count ∙ copied.count) is at none occurs
+    over-some hay needle seen start n from most c.requires.some c.requires.behind c.requires.within refl c.requires.ends (count ∙ copied.count) is at none occurs
 
 pub returns-in-None-clause-first : goal.returns-in-None-clause-first
 returns-in-None-clause-first c =
@@ -31,7 +31,7 @@ returns-in-None-clause-first c =
     let needle = c.args.needle.now in
     let start = c.args.start in
     let n = length c.args.chunk.now in
-    let from = c.saturating_sub-from.result in
+    let from = c.args.from in
     let most = n - from + (length needle - 1) in
     let filled = c.copy_from-filled.result in
     let seen = take filled c.copy_from-filled.new.room in
@@ -40,4 +40,4 @@ returns-in-None-clause-first c =
     let is : seen ≡ take (length seen) (drop (start + from) hay) = copied.bytes ∙ ap (λ (k : ℕ). take k (drop (start + from) hay)) (sym count) in
     let same = c.requires.finder in
     let none = subst (λ (t : List ℕ). Nowhere (OccursAt seen t) 0 (length seen + 1)) same c.in-None.ensures in
-    over-none hay needle seen start n from most c.requires.some c.saturating_sub-from.ensures refl c.requires.ends (count ∙ copied.count) is none
+    over-none hay needle seen start n from most c.requires.some c.requires.behind c.requires.within refl c.requires.ends (count ∙ copied.count) is none

@@ -16,20 +16,11 @@ returns-in-Some-clause-first c =
     let occurs = subst (λ (n : List ℕ). OccursAt chunk n at) c.requires.finder found.1 in
     (first-in hay needle chunk c.args.start c.requires.chunk ends c.requires.some at none occurs, occurs-out hay needle chunk c.args.start c.requires.chunk ends at occurs)
 
-pub returns-then-needle-le-MOST_COPIED-clause-first : goal.returns-then-needle-le-MOST_COPIED-clause-first
-returns-then-needle-le-MOST_COPIED-clause-first c =
+pub returns-clause-first : goal.returns-clause-first
+returns-clause-first c =
     let hay = c.args.ahead.now.bytes in
     let needle = c.args.needle.now in
     let chunk = c.args.chunk.now in
     let ends : c.args.start + length chunk ≤ length hay = omega (arith, c.requires.ends, c.requires.size) in
     let none = subst (λ (n : List ℕ). Nowhere (OccursAt chunk n) 0 (length chunk + 1)) c.requires.finder c.in_default.ensures in
-    first-behind hay needle chunk c.args.start c.requires.chunk ends c.requires.some c.over_border.result none c.over_border.ensures.first
-
-pub returns-else-needle-le-MOST_COPIED-clause-first : goal.returns-else-needle-le-MOST_COPIED-clause-first
-returns-else-needle-le-MOST_COPIED-clause-first c =
-    let hay = c.args.ahead.now.bytes in
-    let needle = c.args.needle.now in
-    let chunk = c.args.chunk.now in
-    let ends : c.args.start + length chunk ≤ length hay = omega (arith, c.requires.ends, c.requires.size) in
-    let none = subst (λ (n : List ℕ). Nowhere (OccursAt chunk n) 0 (length chunk + 1)) c.requires.finder c.in_default.ensures in
-    first-behind hay needle chunk c.args.start c.requires.chunk ends c.requires.some c.across.result none c.across.ensures.first
+    first-behind hay needle chunk c.args.start c.requires.chunk ends c.requires.some c.behind.result none c.behind.ensures.first
