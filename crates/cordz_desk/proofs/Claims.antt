@@ -1,9 +1,10 @@
 -- Tokens whose claims on one slot have changed.
-use Rattle.std.proofs.Common.{◌≡◌, ◌≢◌, ℕ, List, ◌∷◌, Bool, false, cond, refl, sym, ap, ◌∙◌, subst, inl, inr, eq-eqb, ne_eqb}
+use Rattle.std.proofs.Common.{◌≡◌, ◌≢◌, ℕ, List, ◌∷◌, Bool, true, false, cond, None, refl, sym, ap, ◌∙◌, subst, inl, inr, eq-eqb, ne_eqb}
 use Rattle.cordz_core.specs.declared.answers.Settled.{Settled}
+use Rattle.cordz_core.specs.Queue.{has}
 use Rattle.record_rule.specs.declared.views.Claim.{Claim}
 use Rattle.record_rule.specs.declared.views.Claim.TheVariants.{Nothing, Promised, Written, Owned, Unlinked, Cleared, Emptied}
-use Rattle.record_rule.specs.declared.views.Deed.TheVariants.{Track, Unlink, Settle}
+use Rattle.record_rule.specs.declared.views.Deed.TheVariants.{Track, Unlink, Settle, Unsnap}
 use Rattle.record_rule.specs.declared.views.DeskView.{DeskView}
 use Rattle.record_rule.specs.declared.views.DeskView.TheVariants.{Token}
 use Rattle.record_rule.specs.declared.views.Noted.{Noted}
@@ -11,6 +12,7 @@ use Rattle.record_rule.specs.declared.views.TokenView.{TokenView}
 use Rattle.record_rule.specs.Steps.{IsOwned, IsUnlinked, Splits}
 use Rattle.record_rule.specs.Views.{claim_at, claiming, done, linked_claim, unlinked_claim, settled_claim, untracked_by}
 use Rattle.cordz_desk.specs.Owners.{issuing_view, issued_view}
+use Rattle.record_rule.proofs.Sweeps.{claim_left}
 use Rattle.cordz_desk.specs.Tokens.{deed_at}
 
 pub claim_here : (s : ℕ) (c : Claim) (cs : List (ℕ × Claim)) → claim_at ((s, c) ∷ cs) s ≡ c
@@ -18,6 +20,10 @@ claim_here s c cs = ap (λ b. cond b c (claim_at cs s)) (eq-eqb s s refl)
 
 pub claim_else : (s t : ℕ) (c : Claim) (cs : List (ℕ × Claim)) → t ≢ s → claim_at ((s, c) ∷ cs) t ≡ claim_at cs t
 claim_else s t c cs not = ap (λ b. cond b c (claim_at cs t)) (ne_eqb t s not)
+
+-- a slot that an ended snapshot let go
+pub let_go : (p q : TokenView) (place w : ℕ) (gone : _) (s : ℕ) → q ≡ done place (Unsnap w gone) p → has s gone.items ≡ true → claim_at q.claims s ≡ Cleared None
+let_go p q place w gone s e is = ap (λ (z : TokenView). claim_at z.claims s) e ∙ (claim_left gone.items p.claims s ∙ ap (λ b. cond b (Cleared None) (claim_at p.claims s)) is)
 
 -- a token that wrote a record and tracked it
 abbrev pub tracked_token : ℕ → ℕ → List Noted → ℕ → TokenView → TokenView

@@ -32,7 +32,7 @@ use Rattle.record_rule.proofs.Deeds.{deed_walk, tracked_small}
 use Rattle.record_rule.proofs.Walks.{IsOut, out_of, gave}
 use Rattle.cordz_desk.specs.declared.asking.Ask.{Ask}
 use Rattle.cordz_desk.specs.declared.asking.Ask.TheVariants.{Reserve, Free, Track, Unlink, Settle, Snap, Unsnap, Head, Next}
-use Rattle.cordz_desk.specs.Asking.{IsWalked, HasSmall, Can, May, Performed}
+use Rattle.cordz_desk.specs.Asking.{IsWalked, HasSmall, IsOnceOver, IsOnce, Can, May, Performed}
 
 module _ {S : Type 0} (tree_of : S → Node) (fits : S → Type 0) where
   -- the registry at a token's turn, with all that is so besides
@@ -187,6 +187,19 @@ module _ {S : Type 0} (tree_of : S → Node) (fits : S → Type 0) where
 
   pub found_small : (d : Deed) (x y : DeskValue S) (p : TokenView) → AtTurn x p → Makes x y d → Does d p (registry_of x) (registry_of y) → HasSmall d
   found_small d x y p t m does = small_of d x y p t m does
+
+-- the slots that an ended snapshot lets go are different ones
+pub found_once : {S : Type 0} (tree_of : S → Node) (fits : S → Type 0) (d : Deed) (x : DeskValue S) (p : TokenView) → AtTurn tree_of fits x p → IsOnceOver d (registry_of x) → IsOnce d
+found_once tree_of fits (deed.Reserve s stamp) x p t o = tt
+found_once tree_of fits deed.Full x p t o = tt
+found_once tree_of fits (deed.Free s) x p t o = tt
+found_once tree_of fits (deed.Track s) x p t o = tt
+found_once tree_of fits (deed.Unlink s) x p t o = tt
+found_once tree_of fits (deed.Settle s a) x p t o = tt
+found_once tree_of fits (deed.Snap w) x p t o = tt
+found_once {S} tree_of fits (deed.Unsnap w gone) x p t o = o (history t.facts.log) (subst (λ (z : DeskValue S). Replays (history t.facts.log) (registry_of z)) (sym t.is) t.world.replays)
+found_once tree_of fits (deed.Head a) x p t o = tt
+found_once tree_of fits (deed.Next s a) x p t o = tt
 
 -- what was done is what the token might do
 pub does_of : (ask : Ask) (d : Deed) (p : TokenView) (x y : Contents) → May ask p → Performed ask d x y → Does d p x y

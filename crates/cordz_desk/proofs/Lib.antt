@@ -3,6 +3,7 @@ pub mod Ends
 pub mod Finds
 pub mod GivenUp
 pub mod Opens
+pub mod Rising
 pub mod Sharing
 pub mod Showing
 pub mod Turning

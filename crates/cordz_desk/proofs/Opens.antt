@@ -61,6 +61,7 @@ module _ {S : Type 0} (tree_of : S → Node) (fits : S → Type 0) where
       };
       notes = λ _. tt;
       unborn = λ t _. (refl, refl);
+      told = λ _. inl refl;
       few = omega arith;
       ungiven = λ n _. (refl, fresh.1.walking n);
       each = one fresh.0;

@@ -4,7 +4,9 @@ use Rattle.cordz_core.specs.declared.slot.SlotState.{SlotState}
 use Rattle.cordz_core.specs.declared.slot.SlotState.TheVariants.{Free as IsFree, Reserved, Linked, Leaving, Queued, Clearing}
 use Rattle.cordz_core.specs.Contents.{Contents, state_of, birth_of}
 use Rattle.cordz_core.specs.Links.{Moves, Begins, Ends, moved_to}
-use Rattle.cordz_core.specs.Queue.{has}
+use Rattle.cordz_core.specs.History.{History}
+use Rattle.cordz_core.specs.Legal.{Replays}
+use Rattle.cordz_core.specs.Queue.{has, Apart}
 use Rattle.record_rule.specs.declared.views.Deed.{Deed}
 use Rattle.record_rule.specs.declared.views.Deed.TheVariants as deed
 use Rattle.record_rule.specs.declared.views.TokenView.{TokenView}
@@ -61,6 +63,15 @@ HasSmall (deed.Head answer) = IfSome answer (λ s. s < 256)
 HasSmall (deed.Next t answer) = IfSome answer (λ s. s < 256)
 HasSmall (deed.Unsnap w gone) = (s : ℕ) → has s gone.items ≡ true → s < 256
 HasSmall d = Unit {0}
+
+-- a deed's answer names no slot twice, over every history that the registry replays, and so at the turn
+abbrev pub IsOnceOver : Deed → Contents → Type 0
+IsOnceOver (deed.Unsnap w gone) x = (h : History) → Replays h x → Apart gone.items
+IsOnceOver d x = Unit {0}
+
+abbrev pub IsOnce : Deed → Type 0
+IsOnce (deed.Unsnap w gone) = Apart gone.items
+IsOnce d = Unit {0}
 
 -- what was done to the registry
 abbrev pub Performed : Ask → Deed → Contents → Contents → Type 0

@@ -2,7 +2,7 @@
 use Rattle.std.specs.Prelude.{◌≡◌, ◌≤◌, ◌<◌, ◌+◌, ◌⊎◌, ℕ, List, [], ◌∷◌, Option, Some, None}
 use mathlib.Core.Option.{some}
 use lib.ListN.{get_elem?}
-use Rattle.cordz_core.specs.declared.slot.SlotState.TheVariants.{Free}
+use Rattle.cordz_core.specs.declared.slot.SlotState.TheVariants.{Free, Reserved, Linked}
 use Rattle.cordz_core.specs.Contents.{state_of}
 use Rattle.cordz_core.specs.History.{stamp_in}
 use Rattle.cordz_core.specs.Legal.{Replays}
@@ -11,9 +11,10 @@ use Rattle.record_rule.specs.declared.values.DeskValue.TheVariants.{List as List
 use Rattle.record_rule.specs.declared.values.Rep.{Rep}
 use Rattle.record_rule.specs.declared.views.DeskView.{DeskView}
 use Rattle.record_rule.specs.declared.views.DeskView.TheVariants.{Root}
+use Rattle.record_rule.specs.declared.views.Noted.{Noted}
 use Rattle.record_rule.specs.declared.views.TokenView.{TokenView}
-use Rattle.record_rule.specs.Log.{history, IsLog, of_token}
-use Rattle.record_rule.specs.Notes.{AreNotes, AllRead, AllUntracked}
+use Rattle.record_rule.specs.Log.{history, IsLog, of_token, unlinked_of}
+use Rattle.record_rule.specs.Notes.{AreNotes, AllRead, AllUntracked, stamps_of}
 use Rattle.record_rule.specs.Views.{token_in}
 use Rattle.record_rule.specs.World.{Facts, IsSlotIn}
 use Rattle.cordz_desk.specs.declared.desk.CordzDesk.{CordzDesk}
@@ -45,6 +46,22 @@ pub record Knew (g : Facts) (p : TokenView) : Type 0 where
   pub own : of_token p.number g.log ≡ p.own
   pub reads : AllRead g.notes p.reads
   pub untracked : AllUntracked g.notes g.live p.untracked
+  pub unlinked : stamps_of p.untracked ≡ unlinked_of p.number g.log
+
+-- these notes of a stamp are among those of the tickets that were untracked
+abbrev pub HasUntracked : ℕ → List Noted → List (ℕ × List Noted) → Type 0
+HasUntracked stamp notes [] = ⊥
+HasUntracked stamp notes (u ∷ us) = (u ≡ (stamp, notes)) ⊎ HasUntracked stamp notes us
+
+-- the stamp's slot has its record still, which isn't unlinked
+abbrev pub IsTrackedYet : Facts → ℕ → Type 0
+IsTrackedYet g stamp = (g.slot stamp < 256) × (stamp_in (history g.log) (g.slot stamp) ≡ stamp)
+    × ((state_of g.registry (g.slot stamp) ≡ Reserved) ⊎ (state_of g.registry (g.slot stamp) ≡ Linked))
+
+-- no note was set under the stamp, or its record is tracked yet, or one of the tokens that were given untracked its ticket and has these notes in its list
+abbrev pub IsAccounted : Facts → ℕ → List TokenView → ℕ → Type 0
+IsAccounted g given tokens stamp = (g.notes stamp ≡ [])
+    ⊎ (IsTrackedYet g stamp ⊎ ((n : ℕ) × (n < given) × Each (λ (p : TokenView). p.number ≡ n → HasUntracked stamp (g.notes stamp) p.untracked) tokens))
 
 module _ {P : Type 0} where
   -- the share of a record that was at home
@@ -74,6 +91,7 @@ module _ {P : Type 0} where
     pub replays : Replays (history facts.log) facts.registry
     pub notes : (stamp : ℕ) → AreNotes stamp (facts.notes stamp)
     pub knew : Each (Knew facts) tokens
+    pub accounted : (stamp : ℕ) → IsAccounted facts given tokens stamp
     pub others : (n : ℕ) → given ≤ n → of_token n facts.log ≡ []
     pub slots : (s : ℕ) → s < 256 → IsLeft facts values s
     pub left : shares ≡ shares_of values

@@ -1,7 +1,7 @@
 //! The actions and reads that tokens ask of the registry.
 ghost use Rattle.std.specs.Prelude.{◌≡◌, ◌<◌, ◌-◌, ◌^◌, MatchResult};
 ghost use Rattle.record_rule.specs.Steps.{registry_of, IsList, Makes};
-ghost use Rattle.cordz_desk.specs.Asking.{Can, IsAnswerTo, Performed};
+ghost use Rattle.cordz_desk.specs.Asking.{Can, IsAnswerTo, IsOnceOver, Performed};
 
 use crate::list::{free, head, next, reserve, settle, snap, track, unlink, unsnap};
 use record_rule::{Deed, DeskValue};
@@ -28,6 +28,7 @@ pub(crate) fn perform<S>(value: &mut DeskValue<S>, ask: Ask) -> Deed
     ensures makes { Makes value.old value.new result }
     ensures performed { Performed ask result (registry_of value.old) (registry_of value.new) }
     ensures answer { IsAnswerTo ask result }
+    ensures once { IsOnceOver result (registry_of value.old) }
 {
     match ask {
         Ask::Reserve => reserving(value),
@@ -60,6 +61,7 @@ fn reserving<S>(value: &mut DeskValue<S>) -> Deed
     ensures makes { Makes value.old value.new result }
     ensures performed { Performed Ask.Reserve result (registry_of value.old) (registry_of value.new) }
     ensures answer { IsAnswerTo Ask.Reserve result }
+    ensures once { IsOnceOver result (registry_of value.old) }
 {
     match reserve(value) {
         Ok((slot, stamp)) => Deed::Reserve(slot, stamp),

@@ -2,7 +2,10 @@
 ghost use Rattle.std.specs.Prelude.{◌≡◌, ◌≢◌, ◌<◌, ◌-◌, ◌^◌, ◌⊎◌, ℕ, IsSome, MatchResult, None};
 ghost use Rattle.cordz_core.specs.declared.slot.SlotState.TheVariants.{Free as IsFree, Reserved, Linked, Leaving, Clearing};
 ghost use Rattle.cordz_core.specs.Contents.{state_of, birth_of};
+ghost use Rattle.cordz_core.specs.History.{History};
+ghost use Rattle.cordz_core.specs.Legal.{Replays};
 ghost use Rattle.cordz_core.specs.Links.{Moves, Begins, Ends, moved_to};
+ghost use Rattle.cordz_core.specs.Queue.{Apart};
 ghost use Rattle.record_rule.specs.declared.views.Deed.TheVariants.{Reserve, Full, Free, Track, Unlink, Settle, Snap, Unsnap, Head, Next};
 ghost use Rattle.record_rule.specs.Steps.{registry_of, IsList, Makes};
 ghost use Rattle.cordz_desk.specs.Asking.{IsWalked};
@@ -103,6 +106,7 @@ pub(crate) fn unsnap<S>(value: &mut DeskValue<S>, walker: u16) -> ArrayVec<u16, 
     requires one { IsSome (birth_of (registry_of value.old) walker) }
     ensures makes { Makes value.old value.new (Unsnap walker result) }
     ensures ends { Ends (registry_of value.old) (registry_of value.new) walker result.items }
+    ensures once { (h : History) → Replays h (registry_of value.old) → Apart result.items }
 {
     let DeskValue::List(registry) = value else {
         unreachable!()

@@ -1,8 +1,9 @@
 //! Snapshots, and walks from record to record.
-ghost use Rattle.std.specs.Prelude.{◌≡◌, ◌<◌, ◌≤◌, ◌+◌, ◌^◌, ℕ, true, false, IfSome};
-ghost use Rattle.cordz_core.specs.Queue.{has};
+ghost use Rattle.std.specs.Prelude.{◌≡◌, ◌<◌, ◌≤◌, ◌+◌, ◌^◌, ℕ, true, false, IfSome, None};
+ghost use Rattle.cordz_core.specs.Queue.{has, Apart};
 ghost use Rattle.record_rule.specs.Log.{made_of, is_walking, walk_of};
-ghost use Rattle.record_rule.specs.Views.{HasDone};
+ghost use Rattle.record_rule.specs.Views.{claim_at, HasDone};
+ghost use Rattle.record_rule.specs.declared.views.Claim.TheVariants.{Cleared};
 ghost use Rattle.record_rule.specs.declared.views.Deed.TheVariants.{Snap, Unsnap, Head, Next};
 ghost use Rattle.cordz_desk.specs.Tokens.{token_of};
 
@@ -59,6 +60,8 @@ impl<P: Naming, D: DeskNaming> CordzDesk<P, D> {
         requires walking { is_walking (token_of pass.old).own ≡ true }
         ensures done { HasDone (token_of pass.old) (token_of pass.new) (Unsnap (token_of pass.old).number result) }
         ensures small { (s : ℕ) → has s result.items ≡ true → s < 256 }
+        ensures once { Apart result.items }
+        ensures cleared { (s : ℕ) → has s result.items ≡ true → claim_at (token_of pass.new).claims s ≡ Cleared None }
     {
         match self.act(rt, &mut pass.pass, Ask::Unsnap(pass.number)) {
             Deed::Unsnap(_, gone) => gone,

@@ -12,6 +12,7 @@ use Rattle.cordz_core.specs.Contents.{Contents, state_of}
 use Rattle.cordz_core.specs.History.{Reserves, stamp_in, stamps_given}
 use Rattle.cordz_core.specs.Legal.{Replays}
 use Rattle.cordz_core.specs.Links.{Moves}
+use Rattle.cordz_core.specs.Queue.{has}
 use Rattle.record_rule.specs.declared.values.DeskValue.{DeskValue}
 use Rattle.record_rule.specs.declared.values.DeskValue.TheVariants.{List as Lists, Record}
 use Rattle.record_rule.specs.declared.values.Rep.{Rep}
@@ -24,13 +25,13 @@ use Rattle.record_rule.specs.declared.views.Noted.{Noted}
 use Rattle.record_rule.specs.declared.views.TokenView.{TokenView}
 use Rattle.record_rule.specs.declared.views.DeskView.{DeskView}
 use Rattle.record_rule.specs.declared.views.DeskView.TheVariants.{Token}
-use Rattle.record_rule.specs.Log.{after_deed, history, IsAnswer, made_of, is_walking, walk_of}
-use Rattle.record_rule.specs.Notes.{AllUntracked}
+use Rattle.record_rule.specs.Log.{after_deed, history, IsAnswer, made_of, unlinked_of, is_walking, walk_of}
+use Rattle.record_rule.specs.Notes.{AllUntracked, stamps_of}
 use Rattle.record_rule.specs.Steps.{Does, MayFree, IsWritten, IsOwned, IsUnlinked}
 use Rattle.record_rule.specs.Views.{claim_at, done, linked_claim, unlinked_claim, settled_claim, untracked_by, most_actions}
-use Rattle.record_rule.specs.World.{Facts, Has, IsToken, IsSlot, IsWorld}
-use Rattle.record_rule.proofs.Deeds.{deed_room, deed_walk, entry_of, own_entry, follows_entry}
-use Rattle.record_rule.proofs.Moving.{Follows, moved, grows_moved, token_moved, world_moved, set_there}
+use Rattle.record_rule.specs.World.{Facts, Has, IsToken, HasRecord, IsSlot, IsWorld}
+use Rattle.record_rule.proofs.Deeds.{deed_room, deed_walk, entry_of, own_entry, own_unlinked, has_first, follows_entry}
+use Rattle.record_rule.proofs.Moving.{Follows, ToldHere, moved, grows_moved, only_stamp, token_moved, told_still, world_moved, set_there}
 use Rattle.record_rule.proofs.Others.{untracked_stay}
 use Rattle.record_rule.proofs.Slots.{changed, changed_here, stamp_given}
 
@@ -96,10 +97,10 @@ module _ {S : Type 0} (tree_of : S → Node) (fits : S → Type 0) where
                     (sym (changed_here g.claims s s (Promised stamp) refl))
                     (m.state, changed_here g.live stamp _ true here, sym here, changed_here g.slot stamp _ s here, changed_here g.notes stamp _ [] here, free.1);
               })
-              tt (omega arith) grows
+              tt (omega arith) (λ t h. absurd (subst (λ (z : Claim). HasRecord z t) free.0 h)) (inl refl) grows
               (token_moved g by log q s (Promised stamp) stamp s true [] p (entry_of p place (Reserve s stamp) ∷ p.own) p.untracked k grows a.does.0 (owned (Reserve s stamp) q a)
               (deed_walk (Reserve s stamp) p g.registry q (history g.log) a.world.replays a.answer a.does k.walk)
-              (untracked_stay (λ j. j ≡ by) g (moved g by log q s (Promised stamp) stamp s true []) grows p.untracked k.untracked)),
+              (untracked_stay (λ j. j ≡ by) g (moved g by log q s (Promised stamp) stamp s true []) grows p.untracked k.untracked) k.unlinked),
         )
 
     -- a deed on a slot that the token has a claim on
@@ -115,6 +116,8 @@ module _ {S : Type 0} (tree_of : S → Node) (fits : S → Type 0) where
       pub there : get_elem? values (s + 1) ≡ some (Record rep)
       pub is : IsSlot tree_of fits c to s (stamp_in (history g.log) s) (g.slot (stamp_in (history g.log) s)) lives (g.notes (stamp_in (history g.log) s)) rep
       pub untracked : AllUntracked (changed g.notes (stamp_in (history g.log) s) (g.notes (stamp_in (history g.log) s))) (changed g.live (stamp_in (history g.log) s) lives) us
+      pub unlinked : stamps_of us ≡ unlinked_of p.number (entry_of p place d ∷ g.log)
+      pub told : Follows g by (entry_of p place d ∷ g.log) q → ToldHere g by (entry_of p place d ∷ g.log) q s c (stamp_in (history g.log) s) (g.slot (stamp_in (history g.log) s)) lives (g.notes (stamp_in (history g.log) s))
       pub clauses : done place d p ≡ record { number = p.number; own = entry_of p place d ∷ p.own; claims = (s, c) ∷ p.claims; reads = p.reads; untracked = us; shown = p.shown }
 
     acts_on : (d : Deed) (q : Contents) (s : ℕ) (c : Claim) (lives : Bool) (us : List (ℕ × List Noted)) → Doing g values views by p place d q
@@ -142,10 +145,10 @@ module _ {S : Type 0} (tree_of : S → Node) (fits : S → Type 0) where
                     (λ i. (sym (changed_here g.claims s s c refl) i, sym on.moves.state i, sym (on.stamps s) i))
                     (subst (λ (z : ℕ × Bool × List Noted). IsSlot tree_of fits c on.to s stamp z.0 z.1 z.2 on.rep) (λ i. (sym (changed_here g.slot stamp stamp at refl) i, sym (changed_here g.live stamp stamp lives refl) i, sym (changed_here g.notes stamp stamp list refl) i)) on.is);
               })
-              (a.world.notes stamp) (let z = stamp_given (history g.log) s in let y = f.stamps in omega arith) grows
+              (a.world.notes stamp) (let z = stamp_given (history g.log) s in let y = f.stamps in omega arith) (only_stamp tree_of fits g values views s a.world on.small) (on.told f) grows
               (token_moved g by log q s c stamp at lives list p (entry_of p place d ∷ p.own) us k grows on.small (owned d q a)
               (deed_walk d p g.registry q (history g.log) a.world.replays a.answer a.does k.walk)
-              on.untracked)),
+              on.untracked on.unlinked)),
         )
 
     -- the slot of a claim that is not nothing
@@ -163,6 +166,13 @@ module _ {S : Type 0} (tree_of : S → Node) (fits : S → Type 0) where
         let stamp : ℕ = stamp_in (history g.log) s in
         untracked_stay (λ j. j ≡ by) g (moved g by (entry_of p place d ∷ g.log) q s c stamp (g.slot stamp) lives (g.notes stamp))
         (grows_moved g by (entry_of p place d ∷ g.log) q s c stamp (g.slot stamp) lives (g.notes stamp) (follows d q a) (inr h.1) (inl refl) (λ z. (shut z, refl))) p.untracked (token d q a).untracked
+
+    -- where the stamp's notes are after a deed on a slot that has no record which is kept
+    still : (d : Deed) (q : Contents) (s : ℕ) (c c' : Claim) (lives : Bool) → Doing g values views by p place d q → Has g by s c → g.slot (stamp_in (history g.log) s) ≡ s → (HasRecord c (stamp_in (history g.log) s) → ⊥)
+        → Follows g by (entry_of p place d ∷ g.log) q → ToldHere g by (entry_of p place d ∷ g.log) q s c' (stamp_in (history g.log) s) (g.slot (stamp_in (history g.log) s)) lives (g.notes (stamp_in (history g.log) s))
+    still d q s c c' lives a h is none f =
+        let stamp : ℕ = stamp_in (history g.log) s in
+        told_still g by (entry_of p place d ∷ g.log) q s c' stamp (g.slot stamp) lives f is (λ k. none (subst (λ (z : Claim). HasRecord z stamp) h.2 k)) (a.world.told stamp)
 
     pub frees : (s : ℕ) (q : Contents) → Doing g values views by p place (Free s) q → (c : Claim) → claim_at p.claims s ≡ c → MayFree c → Done values views by (Token (done place (Free s) p)) q
     frees s q a Nothing e may = absurd may
@@ -185,6 +195,8 @@ module _ {S : Type 0} (tree_of : S → Node) (fits : S → Type 0) where
           there = o.1;
           is = inl (refl, o.2.5);
           untracked = untracked_same (Free s) q s Nothing (g.live (stamp_in (history g.log) s)) a (subst (Has g by s) (sym e) h) (λ z. z);
+          unlinked = (token (Free s) q a).unlinked;
+          told = still (Free s) q s (Promised own) Nothing (g.live (stamp_in (history g.log) s)) a h o.2.3 (λ z. z);
           clauses = refl;
         }
     frees s q a Emptied e may =
@@ -202,6 +214,8 @@ module _ {S : Type 0} (tree_of : S → Node) (fits : S → Type 0) where
           there = o.1;
           is = inl (refl, o.2.2);
           untracked = untracked_same (Free s) q s Nothing (g.live (stamp_in (history g.log) s)) a (subst (Has g by s) (sym e) h) (λ z. z);
+          unlinked = (token (Free s) q a).unlinked;
+          told = still (Free s) q s Emptied Nothing (g.live (stamp_in (history g.log) s)) a h o.2.1 (λ z. z);
           clauses = refl;
         }
 
@@ -227,6 +241,8 @@ module _ {S : Type 0} (tree_of : S → Node) (fits : S → Type 0) where
           there = o.1;
           is = (refl, o.2.1, o.2.2, o.2.3, sym o.2.4, o.2.5);
           untracked = untracked_same (Track s) q s (Owned own ns false) (g.live (stamp_in (history g.log) s)) a (subst (Has g by s) (sym e) h) (λ z. z);
+          unlinked = (token (Track s) q a).unlinked;
+          told = λ f. inr (inl (o.2.5.0, h.0, o.2.2));
           clauses = ap (λ (z : Claim). record { number = p.number; own = entry_of p place (Track s) ∷ p.own; claims = (s, linked_claim z) ∷ p.claims; reads = p.reads; untracked = p.untracked; shown = p.shown }) e;
         }
 
@@ -253,6 +269,8 @@ module _ {S : Type 0} (tree_of : S → Node) (fits : S → Type 0) where
           there = o.1;
           is = (refl, refl, o.2.2, o.2.4, o.2.5);
           untracked = (changed_here g.live stamp own false o.2.2, changed_here g.notes stamp own (g.notes stamp) o.2.2 ∙ sym o.2.3, untracked_same (Unlink s) q s (Unlinked own bare) false a (subst (Has g by s) (sym e) h) (λ z. refl));
+          unlinked = ap (λ (z : ℕ). z ∷ stamps_of p.untracked) o.2.2 ∙ (ap (λ l. stamp ∷ l) (token (Unlink s) q a).unlinked ∙ sym (own_unlinked p.number s place g.log));
+          told = λ f. inr (inr (p.number, subst (λ (z : List ℕ). has stamp z ≡ true) (sym (own_unlinked p.number s place g.log)) (has_first stamp (unlinked_of p.number g.log))));
           clauses = ap (λ (z : Claim). record { number = p.number; own = entry_of p place (Unlink s) ∷ p.own; claims = (s, unlinked_claim z) ∷ p.claims; reads = p.reads; untracked = untracked_by z p.untracked; shown = p.shown }) e;
         }
 
@@ -278,6 +296,8 @@ module _ {S : Type 0} (tree_of : S → Node) (fits : S → Type 0) where
           there = o.1;
           is = (refl, o.2.1, (o.2.2, o.2.3), o.2.4);
           untracked = untracked_same (Settle s Deleted) q s (Cleared (Some (own, bare))) (g.live (stamp_in (history g.log) s)) a (subst (Has g by s) (sym e) h) (λ z. z);
+          unlinked = (token (Settle s Deleted) q a).unlinked;
+          told = still (Settle s Deleted) q s (Unlinked own bare) (Cleared (Some (own, bare))) (g.live (stamp_in (history g.log) s)) a h o.2.4.0 (λ z. z);
           clauses = ap (λ (z : Claim). record { number = p.number; own = entry_of p place (Settle s Deleted) ∷ p.own; claims = (s, settled_claim Deleted z) ∷ p.claims; reads = p.reads; untracked = p.untracked; shown = p.shown }) e;
         }
     settles s Queued q a (Unlinked own bare) e may =
@@ -295,5 +315,7 @@ module _ {S : Type 0} (tree_of : S → Node) (fits : S → Type 0) where
           there = o.1;
           is = inr (refl, o.2.1, o.2.4);
           untracked = untracked_same (Settle s Queued) q s Nothing (g.live (stamp_in (history g.log) s)) a (subst (Has g by s) (sym e) h) (λ z. z);
+          unlinked = (token (Settle s Queued) q a).unlinked;
+          told = still (Settle s Queued) q s (Unlinked own bare) Nothing (g.live (stamp_in (history g.log) s)) a h o.2.4.0 (λ z. z);
           clauses = refl;
         }

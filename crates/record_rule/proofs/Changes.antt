@@ -47,6 +47,7 @@ same_facts touched g = record {
   same = λ _. refl;
   seat = λ n less apart. refl;
   own = λ n less apart. refl;
+  unlinked = λ n less apart. refl;
   claims = λ s held apart. (refl, refl);
   walk = λ n less apart walking slots w. w;
   notes = λ t. inl refl;
@@ -156,6 +157,7 @@ module _ {S : Type 0} (tree_of : S → Node) (fits : S → Type 0) where
         world = world;
         seen = seen;
         there = there;
+        small = h.0;
         owner = h.1;
         at = f.5.0;
         grown = edit.grown;
@@ -163,6 +165,7 @@ module _ {S : Type 0} (tree_of : S → Node) (fits : S → Type 0) where
         noted = edit.noted;
         is = (f.0, refl, f.2, refl, refl, (refl, edit.stamped, edit.is));
         left = refl;
+        told = inr (inl (refl, h.0, f.2));
       }
       (λ grows. (h.0, changed_here g.owner s s by refl, changed_here g.claims s s c refl))
 
@@ -186,6 +189,7 @@ module _ {S : Type 0} (tree_of : S → Node) (fits : S → Type 0) where
           (λ not. let o = world.slots i small in record { rep = o.rep; at = set_else values (s + 1) (i + 1) (Record t.new) (λ e. not (omega arith)) ∙ o.at; is = o.is });
       notes = world.notes;
       unborn = world.unborn;
+      told = world.told;
       few = world.few;
       ungiven = world.ungiven;
       each = views_next g g views by (Some (Token (reading t.note t.token))) (same_facts (λ j. j ≡ by) g) (record {
@@ -196,6 +200,7 @@ module _ {S : Type 0} (tree_of : S → Node) (fits : S → Type 0) where
         walk = k.walk;
         reads = (read, k.reads);
         untracked = k.untracked;
+        unlinked = k.unlinked;
         shown = k.shown;
       }) world.each;
     },

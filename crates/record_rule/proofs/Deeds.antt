@@ -1,15 +1,17 @@
 -- What each deed does to the log, to walks, and to what is left.
 use Rattle.std.proofs.Common.{◌≡◌, ◌≢◌, ℕ, ◌<◌, ◌≤◌, ◌+◌, ◌-◌, List, [], ◌∷◌, Bool, true, false, cond, eqb, length, Option, Some, None, refl, sym, ap, ◌∙◌, subst, arith, eq-eqb, ne_eqb, eqb-true}
+use Rattle.std.specs.Prelude.{◌||◌, ◌==◌}
 use Rattle.cordz_core.specs.declared.slot.SlotState.TheVariants.{Queued as Waits, Clearing}
 use Rattle.cordz_core.specs.Contents.{Contents, birth_of}
-use Rattle.cordz_core.specs.History.{History, Reserves, Frees, Tracks, Unlinks, Settles, Snaps, Unsnaps, Use, Nobody, Holder, Tracked, use_of, stamps_given}
+use Rattle.cordz_core.specs.History.{History, Reserves, Frees, Tracks, Unlinks, Settles, Snaps, Unsnaps, Use, Nobody, Holder, Tracked, use_of, stamp_in, stamps_given}
 use Rattle.cordz_core.specs.Legal.{Replays, IsLegal, IsDeletionOf, state_after, state_for, course_of, head_after, next_after}
+use Rattle.cordz_core.specs.Queue.{has}
 use Rattle.cordz_core.specs.Times.{RecordTimes, SnapshotTimes, Course, Stays, Left, Done, deleted_at}
 use Rattle.record_rule.specs.declared.views.Deed.{Deed}
 use Rattle.record_rule.specs.declared.views.Deed.TheVariants.{Reserve, Full, Free, Track, Unlink, Settle, Snap, Unsnap, Head, Next}
 use Rattle.record_rule.specs.declared.views.LogEntry.{LogEntry}
 use Rattle.record_rule.specs.declared.views.TokenView.{TokenView}
-use Rattle.record_rule.specs.Log.{after_deed, history, IsAnswer, IsLog, of_token, made_of, is_walking, walking_after, walk_of, walk_after, found_on}
+use Rattle.record_rule.specs.Log.{after_deed, history, IsAnswer, IsLog, of_token, unlinked_by, unlinked_of, made_of, is_walking, walking_after, walk_of, walk_after, found_on}
 use Rattle.record_rule.specs.Steps.{Does}
 use Rattle.record_rule.specs.Views.{most_actions}
 use Rattle.record_rule.specs.World.{Facts, WalksIf, IsToken}
@@ -114,10 +116,64 @@ own_entry p e log is = ap (λ b. cond b (e ∷ of_token p.number log) (of_token 
 other_entry : (n : ℕ) (e : LogEntry) (log : List LogEntry) → n ≢ e.by → of_token n (e ∷ log) ≡ of_token n log
 other_entry n e log not = ap (λ b. cond b (e ∷ of_token n log) (of_token n log)) (ne_eqb n e.by not)
 
+-- an entry of another token leaves the stamps that a token unlinked, and none goes
+unlinked_beside : (d : Deed) (h : History) (us : List ℕ) → unlinked_by d false h us ≡ us
+unlinked_beside (Reserve s stamp) h us = refl
+unlinked_beside Full h us = refl
+unlinked_beside (Free s) h us = refl
+unlinked_beside (Track s) h us = refl
+unlinked_beside (Unlink s) h us = refl
+unlinked_beside (Settle s answer) h us = refl
+unlinked_beside (Snap w) h us = refl
+unlinked_beside (Unsnap w gone) h us = refl
+unlinked_beside (Head answer) h us = refl
+unlinked_beside (Next s answer) h us = refl
+
+other_unlinked : (n : ℕ) (e : LogEntry) (log : List LogEntry) → n ≢ e.by → unlinked_of n (e ∷ log) ≡ unlinked_of n log
+other_unlinked n e log not = ap (λ b. unlinked_by e.deed b (history log) (unlinked_of n log)) (ne_eqb n e.by not) ∙ unlinked_beside e.deed (history log) (unlinked_of n log)
+
+either_has : (a b : Bool) → b ≡ true → (a || b) ≡ true
+either_has true b e = refl
+either_has false b e = e
+
+one_more : (b : Bool) (stamp t : ℕ) (us : List ℕ) → has t us ≡ true → has t (cond b (stamp ∷ us) us) ≡ true
+one_more true stamp t us e = either_has (t == stamp) (has t us) e
+one_more false stamp t us e = e
+
+unlinked_more : (d : Deed) (b : Bool) (h : History) (t : ℕ) (us : List ℕ) → has t us ≡ true → has t (unlinked_by d b h us) ≡ true
+unlinked_more (Reserve s stamp) b h t us e = e
+unlinked_more Full b h t us e = e
+unlinked_more (Free s) b h t us e = e
+unlinked_more (Track s) b h t us e = e
+unlinked_more (Unlink s) b h t us e = one_more b (stamp_in h s) t us e
+unlinked_more (Settle s answer) b h t us e = e
+unlinked_more (Snap w) b h t us e = e
+unlinked_more (Unsnap w gone) b h t us e = e
+unlinked_more (Head answer) b h t us e = e
+unlinked_more (Next s answer) b h t us e = e
+
+-- the entry of an unlink, for its own token
+pub own_unlinked : (n s place : ℕ) (log : List LogEntry) → unlinked_of n (record { by = n; place = place; deed = Unlink s } ∷ log) ≡ stamp_in (history log) s ∷ unlinked_of n log
+own_unlinked n s place log = ap (λ b. cond b (stamp_in (history log) s ∷ unlinked_of n log) (unlinked_of n log)) (eq-eqb n n refl)
+
+pub has_first : (t : ℕ) (us : List ℕ) → has t (t ∷ us) ≡ true
+has_first t us = ap (λ b. b || has t us) (eq-eqb t t refl)
+
+-- a token without entries unlinked nothing
+by_entry : (b : Bool) (e : LogEntry) (es : List LogEntry) (n : ℕ) → (of_token n es ≡ [] → unlinked_of n es ≡ []) → cond b (e ∷ of_token n es) (of_token n es) ≡ [] → unlinked_by e.deed b (history es) (unlinked_of n es) ≡ []
+by_entry true e es n k none = absurd (cc)
+by_entry false e es n k none = unlinked_beside e.deed (history es) (unlinked_of n es) ∙ k none
+
+pub unlinked_none : (n : ℕ) (log : List LogEntry) → of_token n log ≡ [] → unlinked_of n log ≡ []
+unlinked_none n [] e = refl
+unlinked_none n (x ∷ xs) e = by_entry (n == x.by) x xs n (unlinked_none n xs) e
+
 pub follows_entry : (g : Facts) (by : ℕ) (p : TokenView) (place : ℕ) (d : Deed) (q : Contents) → Replays (history g.log) g.registry → IsLog g.log → ((n : ℕ) → g.given ≤ n → (of_token n g.log ≡ []) × (birth_of g.registry n ≡ None))
     → IsToken g by p → place ≡ q.clock → Replays (after_deed d (history g.log)) q → IsAnswer d (history g.log) → Does d p g.registry q → Follows g by (entry_of p place d ∷ g.log) q
 follows_entry g by p place d q rep logged ungiven k placed replays answer does = record {
   own = λ n less apart. other_entry n (entry_of p place d) g.log (λ e. apart (ap g.seat e ∙ k.seat));
+  unlinked = λ n less apart. other_unlinked n (entry_of p place d) g.log (λ e. apart (ap g.seat e ∙ k.seat));
+  more = λ n t e. unlinked_more d (n == p.number) (history g.log) t (unlinked_of n g.log) e;
   walk = λ n less apart walking slots w. walks_deed d g.registry q (history g.log) n walking slots (deed_births d p g.registry q does n (λ e. apart (ap g.seat e ∙ k.seat))) w;
   replays = replays;
   walkers = deed_walkers d p g.registry q does;

@@ -1,5 +1,5 @@
 -- A step of one token: what it has to show, so that the rule of the desk survives it.
-use Rattle.std.proofs.Common.{◌≡◌, ◌≢◌, ◌⊎◌, ℕ, zero, suc, ◌<◌, ◌≤◌, ◌+◌, List, [], ◌∷◌, ◌++◌, Bool, false, cond, set, length, Option, Some, None, refl, sym, ap, ◌∙◌, subst, inl, inr, ⊎_elim, arith, eq-eqb, ne_eqb}
+use Rattle.std.proofs.Common.{◌≡◌, ◌≢◌, ◌⊎◌, ℕ, zero, suc, ◌<◌, ◌≤◌, ◌+◌, List, [], ◌∷◌, ◌++◌, Bool, true, false, cond, set, length, Option, Some, None, refl, sym, ap, ◌∙◌, subst, inl, inr, ⊎_elim, arith, eq-eqb, ne_eqb}
 use mathlib.Core.Logic.{dite}
 use native.Mathlib.Decide.{ℕ_discrete}
 use mathlib.Core.Option.{some, some-injective, some-ne-none}
@@ -9,6 +9,7 @@ use Rattle.node_forest.specs.Label.{Node}
 use Rattle.cordz_core.specs.Contents.{Contents, state_of, birth_of}
 use Rattle.cordz_core.specs.History.{stamp_in, stamps_given}
 use Rattle.cordz_core.specs.Legal.{Replays}
+use Rattle.cordz_core.specs.Queue.{has}
 use Rattle.record_rule.specs.declared.values.DeskValue.{DeskValue}
 use Rattle.record_rule.specs.declared.values.DeskValue.TheVariants.{List as Lists}
 use Rattle.record_rule.specs.declared.views.Claim.{Claim}
@@ -17,12 +18,12 @@ use Rattle.record_rule.specs.declared.views.LogEntry.{LogEntry}
 use Rattle.record_rule.specs.declared.views.Noted.{Noted}
 use Rattle.record_rule.specs.declared.views.TokenView.{TokenView}
 use Rattle.record_rule.specs.declared.views.DeskView.{DeskView}
-use Rattle.record_rule.specs.Log.{history, IsLog, of_token, is_walking, walk_of}
-use Rattle.record_rule.specs.Notes.{GrowsTo, AreNotes, AllUntracked}
+use Rattle.record_rule.specs.Log.{history, IsLog, of_token, unlinked_of, is_walking, walk_of}
+use Rattle.record_rule.specs.Notes.{GrowsTo, AreNotes, AllUntracked, stamps_of}
 use Rattle.record_rule.specs.Views.{claim_at, left_of, all_left}
-use Rattle.record_rule.specs.World.{Facts, WalksIf, Has, IsToken, Fits, HasSlot, IsWorld}
+use Rattle.record_rule.specs.World.{Facts, WalksIf, Has, IsToken, Fits, HasRecord, IsTold, HasSlot, IsWorld}
 use Rattle.record_rule.proofs.Others.{Grows, stays, reads_stay, shown_stay}
-use Rattle.record_rule.proofs.Slots.{changed, changed_here, changed_else, slot_other}
+use Rattle.record_rule.proofs.Slots.{changed, changed_here, changed_else, kept_stamp, slot_other}
 
 pub set_there : {A : Type 0} (l : List A) (i : ℕ) (x y : A) → get_elem? l i ≡ some x → get_elem? (set l i y) i ≡ some y
 set_there [] i x y e = absurd (some-ne-none x (sym e))
@@ -61,6 +62,8 @@ moved g by log registry s c stamp at lives list = record {
 -- what the log and the registry of a step leave to other tokens
 pub record Follows (g : Facts) (by : ℕ) (log : List LogEntry) (registry : Contents) : Type 0 where
   pub own : (n : ℕ) → n < g.given → g.seat n ≢ by → of_token n log ≡ of_token n g.log
+  pub unlinked : (n : ℕ) → n < g.given → g.seat n ≢ by → unlinked_of n log ≡ unlinked_of n g.log
+  pub more : (n stamp : ℕ) → has stamp (unlinked_of n g.log) ≡ true → has stamp (unlinked_of n log) ≡ true
   pub walk : (n : ℕ) → n < g.given → g.seat n ≢ by → (walking : Bool) (slots : List ℕ) → WalksIf walking g.registry (history g.log) n slots → WalksIf walking registry (history log) n slots
   pub replays : Replays (history log) registry
   pub walkers : registry.walkers ≡ g.registry.walkers
@@ -84,6 +87,7 @@ module _ (g : Facts) (by : ℕ) (log : List LogEntry) (registry : Contents) (s :
     same = λ _. refl;
     seat = λ n less apart. refl;
     own = λ n less apart. f.own n less apart;
+    unlinked = λ n less apart. f.unlinked n less apart;
     claims = λ t some apart.
         let other : t ≢ s = λ e. ⊎_elim (λ none. some (ap g.claims e ∙ none)) (λ is. apart (ap g.owner e ∙ is)) mine in
         (changed_else g.claims s t c other, changed_else g.owner s t by other);
@@ -100,11 +104,47 @@ module _ (g : Facts) (by : ℕ) (log : List LogEntry) (registry : Contents) (s :
       (λ not. subst (λ (z : Claim). (z ≡ Nothing) ⊎ Has Next by t z) (sym (ap (λ b. cond b c (claim_at p.claims t)) (ne_eqb t s not)))
       (⊎_elim (λ none. inl none) (λ h. inr (h.0, changed_else g.owner s t by not ∙ h.1, changed_else g.claims s t c not ∙ h.2)) (k.claims t)))
 
+  -- where the notes of the changed stamp are after the step, and so those of all stamps
+  abbrev pub ToldHere : Type 0
+  ToldHere = (list ≡ []) ⊎ (((at ≡ s) × (s < 256) × HasRecord c stamp) ⊎ ((n : ℕ) × (has stamp (unlinked_of n log) ≡ true)))
+
+  told_moved : Follows g by log registry → ((t : ℕ) → HasRecord (g.claims s) t → t ≡ stamp) → ToldHere → ((t : ℕ) → IsTold g t) → (t : ℕ) → IsTold Next t
+  told_moved f only here told t = dite (ℕ_discrete t stamp) told_same told_other
+    where
+      kept_same : t ≡ stamp → (at ≡ s) × (s < 256) × HasRecord c stamp → (Next.slot t < 256) × HasRecord (Next.claims (Next.slot t)) t
+      kept_same is k =
+          let there : Next.slot t ≡ s = changed_here g.slot stamp t at is ∙ k.0 in
+          (subst (λ (z : ℕ). z < 256) (sym there) k.1, subst (λ (z : Claim × ℕ). HasRecord z.0 z.1) (λ i. (sym (changed_here g.claims s (Next.slot t) c there) i, sym is i)) k.2)
+
+      told_same : t ≡ stamp → IsTold Next t
+      told_same is = ⊎_elim
+          (λ none. inl (changed_here g.notes stamp t list is ∙ none))
+          (λ rest. ⊎_elim
+          (λ k. inr (inl (kept_same is k)))
+          (λ (u : (n : ℕ) × (has stamp (unlinked_of n log) ≡ true)). inr (inr (u.0, subst (λ (z : ℕ). has z (unlinked_of u.0 log) ≡ true) (sym is) u.1)))
+          rest)
+          here
+
+      kept_other : t ≢ stamp → (g.slot t < 256) × HasRecord (g.claims (g.slot t)) t → (Next.slot t < 256) × HasRecord (Next.claims (Next.slot t)) t
+      kept_other not k =
+          let there : Next.slot t ≡ g.slot t = changed_else g.slot stamp t at not in
+          let other : g.slot t ≢ s = λ e. not (only t (subst (λ (z : ℕ). HasRecord (g.claims z) t) e k.1)) in
+          (subst (λ (z : ℕ). z < 256) (sym there) k.0, subst (λ (z : Claim). HasRecord z t) (sym (ap (changed g.claims s c) there ∙ changed_else g.claims s (g.slot t) c other)) k.1)
+
+      told_other : t ≢ stamp → IsTold Next t
+      told_other not = ⊎_elim
+          (λ none. inl (changed_else g.notes stamp t list not ∙ none))
+          (λ rest. ⊎_elim
+          (λ k. inr (inl (kept_other not k)))
+          (λ (u : (n : ℕ) × (has t (unlinked_of n g.log) ≡ true)). inr (inr (u.0, f.more u.0 t u.1)))
+          rest)
+          (told t)
+
   -- the token whose step it was
   pub token_moved : (p : TokenView) (own : List LogEntry) (us : List (ℕ × List Noted)) → IsToken g by p → Grows (λ j. j ≡ by) g Next → s < 256 → of_token p.number log ≡ own
-      → WalksIf (is_walking own) registry (history log) p.number (walk_of own) → AllUntracked Next.notes Next.live us
+      → WalksIf (is_walking own) registry (history log) p.number (walk_of own) → AllUntracked Next.notes Next.live us → stamps_of us ≡ unlinked_of p.number log
       → IsToken Next by (record { number = p.number; own = own; claims = (s, c) ∷ p.claims; reads = p.reads; untracked = us; shown = p.shown })
-  token_moved p own us k grows small is walk untracked = record {
+  token_moved p own us k grows small is walk untracked unlinked = record {
     seat = k.seat;
     given = k.given;
     own = is;
@@ -112,6 +152,7 @@ module _ (g : Facts) (by : ℕ) (log : List LogEntry) (registry : Contents) (s :
     walk = walk;
     reads = reads_stay (λ j. j ≡ by) g Next grows p.reads k.reads;
     untracked = untracked;
+    unlinked = unlinked;
     shown = shown_stay (λ j. j ≡ by) g Next grows p.shown k.shown;
   }
 
@@ -132,10 +173,11 @@ module _ {S : Type 0} (tree_of : S → Node) (fits : S → Type 0) where
       → ((t : ℕ) → t ≢ s → stamp_in (history g.log) t ≡ stamp → g.slot stamp ≢ t)
       → HasSlot tree_of fits (moved g by log registry s c stamp at lives list) values' s
       → AreNotes stamp list → stamp ≤ stamps_given (history log)
+      → ((t : ℕ) → HasRecord (g.claims s) t → t ≡ stamp) → ToldHere g by log registry s c stamp at lives list
       → Grows (λ j. j ≡ by) g (moved g by log registry s c stamp at lives list)
       → Fits (moved g by log registry s c stamp at lives list) by (Some w)
       → IsWorld tree_of fits (moved g by log registry s c stamp at lives list) values' (set views by (Some w))
-  world_moved g values values' views by v w log registry s c stamp at lives list world seen follows first count left others apart mine noted born grows fitting = record {
+  world_moved g values values' views by v w log registry s c stamp at lives list world seen follows first count left others apart mine noted born only here grows fitting = record {
     first = first;
     count = count ∙ world.count;
     walkers = follows.walkers ∙ world.walkers;
@@ -158,6 +200,7 @@ module _ {S : Type 0} (tree_of : S → Node) (fits : S → Type 0) where
         let not : t ≢ stamp = λ e. omega arith in
         let k = world.unborn t (omega arith) in
         (changed_else g.notes stamp t list not ∙ k.0, changed_else g.live stamp t lives not ∙ k.1);
+    told = told_moved g by log registry s c stamp at lives list follows only here world.told;
     few = world.few;
     ungiven = follows.ungiven;
     each = views_next g Next views by (Some w) grows fitting world.each;
@@ -165,3 +208,21 @@ module _ {S : Type 0} (tree_of : S → Node) (fits : S → Type 0) where
     where
       Next : Facts
       Next = moved g by log registry s c stamp at lives list
+
+  -- a record that is kept at a slot has the slot's stamp
+  pub only_stamp : (g : Facts) (values : List (DeskValue S)) (views : List (Option DeskView)) (s : ℕ) → IsWorld tree_of fits g values views → s < 256 → (t : ℕ) → HasRecord (g.claims s) t → t ≡ stamp_in (history g.log) s
+  only_stamp g values views s world small t h =
+      let o = world.slots s small in
+      let stamp : ℕ = stamp_in (history g.log) s in
+      kept_stamp tree_of fits (g.claims s) (state_of g.registry s) s stamp (g.slot stamp) (g.live stamp) (g.notes stamp) o.rep t o.is h
+
+-- where a stamp's notes are after a step on a slot that has no such record
+pub told_still : (g : Facts) (by : ℕ) (log : List LogEntry) (registry : Contents) (s : ℕ) (c : Claim) (stamp at : ℕ) (lives : Bool) → Follows g by log registry → g.slot stamp ≡ s → (HasRecord (g.claims s) stamp → ⊥) → IsTold g stamp
+    → ToldHere g by log registry s c stamp at lives (g.notes stamp)
+told_still g by log registry s c stamp at lives f is none told = ⊎_elim
+    (λ empty. inl empty)
+    (λ rest. ⊎_elim
+    (λ k. absurd (none (subst (λ (z : ℕ). HasRecord (g.claims z) stamp) is k.1)))
+    (λ (u : (n : ℕ) × (has stamp (unlinked_of n g.log) ≡ true)). inr (inr (u.0, f.more u.0 stamp u.1)))
+    rest)
+    told

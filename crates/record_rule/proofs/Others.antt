@@ -6,7 +6,7 @@ use Rattle.record_rule.specs.declared.views.Noted.{Noted}
 use Rattle.record_rule.specs.declared.views.TokenView.{TokenView}
 use Rattle.record_rule.specs.declared.views.DeskView.{DeskView}
 use Rattle.record_rule.specs.declared.views.DeskView.TheVariants.{Root, Token, Ticket, Lent}
-use Rattle.record_rule.specs.Log.{history, of_token, is_walking, walk_of}
+use Rattle.record_rule.specs.Log.{history, of_token, unlinked_of, is_walking, walk_of}
 use Rattle.record_rule.specs.Notes.{IsNoteOf, NoneAbove, ReachesTo, GrowsTo, AllRead, AllShown, AllUntracked}
 use Rattle.record_rule.specs.Views.{claim_at}
 use Rattle.record_rule.specs.World.{Facts, WalksIf, Has, IsToken, AreTokens, Fits}
@@ -18,6 +18,7 @@ pub record Grows (touched : ℕ → Type 0) (g k : Facts) : Type 0 where
   pub same : (touched g.root → ⊥) → k.given ≡ g.given
   pub seat : (n : ℕ) → n < g.given → (touched (g.seat n) → ⊥) → k.seat n ≡ g.seat n
   pub own : (n : ℕ) → n < g.given → (touched (g.seat n) → ⊥) → of_token n k.log ≡ of_token n g.log
+  pub unlinked : (n : ℕ) → n < g.given → (touched (g.seat n) → ⊥) → unlinked_of n k.log ≡ unlinked_of n g.log
   pub claims : (s : ℕ) → g.claims s ≢ Nothing → (touched (g.owner s) → ⊥) → (k.claims s ≡ g.claims s) × (k.owner s ≡ g.owner s)
   pub walk : (n : ℕ) → n < g.given → (touched (g.seat n) → ⊥) → (walking : Bool) (slots : List ℕ) → WalksIf walking g.registry (history g.log) n slots → WalksIf walking k.registry (history k.log) n slots
   pub notes : (stamp : ℕ) → GrowsTo (g.notes stamp) (k.notes stamp)
@@ -79,6 +80,7 @@ module _ (touched : ℕ → Type 0) (g k : Facts) (grows : Grows touched g k) wh
         walk = grows.walk p.number t.given off (is_walking p.own) (walk_of p.own) t.walk;
         reads = reads_stay p.reads t.reads;
         untracked = untracked_stay p.untracked t.untracked;
+        unlinked = t.unlinked ∙ sym (grows.unlinked p.number t.given off);
         shown = shown_stay p.shown t.shown;
       }
 

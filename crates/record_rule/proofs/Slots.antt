@@ -1,5 +1,5 @@
 -- What a step on one slot leaves of the others.
-use Rattle.std.proofs.Common.{◌≡◌, ◌≢◌, ℕ, ◌≤◌, ◌+◌, List, [], ◌∷◌, Bool, true, false, cond, eqb, refl, sym, ap, subst, inl, inr, arith, eq-eqb, ne_eqb}
+use Rattle.std.proofs.Common.{◌≡◌, ◌≢◌, ℕ, ◌≤◌, ◌+◌, List, [], ◌∷◌, Bool, true, false, cond, eqb, refl, sym, ap, ◌∙◌, subst, inl, inr, arith, eq-eqb, ne_eqb}
 use mathlib.Core.Logic.{dite}
 use native.Mathlib.Decide.{ℕ_discrete}
 use Rattle.node_forest.specs.Label.{Node}
@@ -9,7 +9,7 @@ use Rattle.record_rule.specs.declared.values.Rep.{Rep}
 use Rattle.record_rule.specs.declared.views.Claim.{Claim}
 use Rattle.record_rule.specs.declared.views.Claim.TheVariants.{Nothing, Promised, Written, Owned, Unlinked, Cleared, Emptied}
 use Rattle.record_rule.specs.declared.views.Noted.{Noted}
-use Rattle.record_rule.specs.World.{IsSlot}
+use Rattle.record_rule.specs.World.{HasRecord, IsSlot}
 
 -- a function with one value changed
 abbrev pub changed : {A : Type 0} → (ℕ → A) → ℕ → A → ℕ → A
@@ -47,6 +47,16 @@ module _ {S : Type 0} (tree_of : S → Node) (fits : S → Type 0) where
   slot_apart (Unlinked own bare) state s stamp at at' live live' notes notes' r apart k = absurd (apart k.4.0)
   slot_apart (Cleared bare) state s stamp at at' live live' notes notes' r apart k = absurd (apart k.3.0)
   slot_apart Emptied state s stamp at at' live live' notes notes' r apart k = absurd (apart k.1)
+
+  -- a record that is written and not unlinked has its slot's stamp
+  pub kept_stamp : (c : Claim) (state : SlotState) (s stamp at : ℕ) (live : Bool) (notes : List Noted) (r : Rep S) (t : ℕ) → IsSlot tree_of fits c state s stamp at live notes r → HasRecord c t → t ≡ stamp
+  kept_stamp Nothing state s stamp at live notes r t k h = absurd h
+  kept_stamp (Promised own) state s stamp at live notes r t k h = absurd h
+  kept_stamp (Written own ns) state s stamp at live notes r t k h = sym h ∙ k.2
+  kept_stamp (Owned own ns bare) state s stamp at live notes r t k h = sym h ∙ k.2
+  kept_stamp (Unlinked own bare) state s stamp at live notes r t k h = absurd h
+  kept_stamp (Cleared bare) state s stamp at live notes r t k h = absurd h
+  kept_stamp Emptied state s stamp at live notes r t k h = absurd h
 
   pub slot_same : (c c' : Claim) (state state' : SlotState) (s stamp stamp' at at' : ℕ) (live live' : Bool) (notes notes' : List Noted) (r : Rep S) → c' ≡ c → state' ≡ state → stamp' ≡ stamp → at' ≡ at → live' ≡ live → notes' ≡ notes
       → IsSlot tree_of fits c state s stamp at live notes r → IsSlot tree_of fits c' state' s stamp' at' live' notes' r

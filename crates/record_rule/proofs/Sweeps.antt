@@ -23,9 +23,9 @@ use Rattle.record_rule.specs.declared.views.Noted.{Noted}
 use Rattle.record_rule.specs.declared.views.TokenView.{TokenView}
 use Rattle.record_rule.specs.declared.views.DeskView.{DeskView}
 use Rattle.record_rule.specs.declared.views.DeskView.TheVariants.{Token}
-use Rattle.record_rule.specs.Log.{after_deed, history}
+use Rattle.record_rule.specs.Log.{after_deed, history, unlinked_by, unlinked_of}
 use Rattle.record_rule.specs.Views.{claim_at, done, nothing_left}
-use Rattle.record_rule.specs.World.{Facts, Has, IsToken, IsSlot, HasSlot, IsWorld}
+use Rattle.record_rule.specs.World.{Facts, Has, IsToken, HasRecord, IsTold, IsSlot, HasSlot, IsWorld}
 use Rattle.record_rule.proofs.Acts.{Doing, Done}
 use Rattle.record_rule.proofs.Deeds.{deed_room, deed_walk, entry_of, own_entry, follows_entry, tracked_small, waits_by}
 use Rattle.record_rule.proofs.Moving.{Follows, all_left_set, set_there, views_next}
@@ -47,7 +47,7 @@ swept g by log registry gone = record {
   slot = g.slot;
 }
 
-claim_left : (gone : List ℕ) (cs : List (ℕ × Claim)) (t : ℕ) → claim_at (nothing_left gone cs) t ≡ cond (has t gone) (Cleared None) (claim_at cs t)
+pub claim_left : (gone : List ℕ) (cs : List (ℕ × Claim)) (t : ℕ) → claim_at (nothing_left gone cs) t ≡ cond (has t gone) (Cleared None) (claim_at cs t)
 claim_left [] cs t = refl
 claim_left (s ∷ ss) cs t = by_test (t == s) (claim_left ss cs t)
   where
@@ -85,9 +85,10 @@ module _ {S : Type 0} (tree_of : S → Node) (fits : S → Type 0) where
 
   module _ (g : Facts) (values : List (DeskValue S)) (views : List (Option DeskView)) (by : ℕ) (p : TokenView) (place : ℕ) where
     sweeps : (d : Deed) (q : Contents) (gone : List ℕ) → Doing tree_of fits g values views by p place d q → Sweep g.registry q gone → ((t : ℕ) → stamp_in (after_deed d (history g.log)) t ≡ stamp_in (history g.log) t)
+        → ((b : Bool) (h : History) (us : List ℕ) → unlinked_by d b h us ≡ us)
         → done place d p ≡ record { number = p.number; own = entry_of p place d ∷ p.own; claims = nothing_left gone p.claims; reads = p.reads; untracked = p.untracked; shown = p.shown }
         → Done tree_of fits values views by (Token (done place d p)) q
-    sweeps d q gone a sweep stamps clauses =
+    sweeps d q gone a sweep stamps quiet clauses =
         let log : List LogEntry = entry_of p place d ∷ g.log in
         let k : IsToken g by p = a.world.each by (Some (Token p)) a.seen in
         let f = follows_entry g by p place d q a.world.replays a.world.log a.world.ungiven k a.placed a.replays a.answer a.does in
@@ -108,6 +109,7 @@ module _ {S : Type 0} (tree_of : S → Node) (fits : S → Type 0) where
           same = λ _. refl;
           seat = λ n less apart. refl;
           own = λ n less apart. f.own n less apart;
+          unlinked = λ n less apart. f.unlinked n less apart;
           claims = λ t held apart. ⊎_elim (λ is. absurd (held (nobodys t is)))
               (λ not. (cond_false (has t gone) (Cleared None) (g.claims t) not, cond_false (has t gone) by (g.owner t) not)) (true_or_false (has t gone));
           walk = λ n less apart. f.walk n less apart;
@@ -121,6 +123,24 @@ module _ {S : Type 0} (tree_of : S → Node) (fits : S → Type 0) where
             (λ not. ⊎_elim (λ none. inl (cond_false (has t gone) (Cleared None) (claim_at p.claims t) not ∙ none))
             (λ h. inr (h.0, cond_false (has t gone) by (g.owner t) not ∙ h.1, cond_false (has t gone) (Cleared None) (g.claims t) not ∙ (h.2 ∙ sym (cond_false (has t gone) (Cleared None) (claim_at p.claims t) not)))) (k.claims t))
             (true_or_false (has t gone))
+
+        kept_on : (t : ℕ) → (g.slot t < 256) × HasRecord (g.claims (g.slot t)) t → (g.slot t < 256) × HasRecord ((Next d q gone).claims (g.slot t)) t
+        kept_on t k = (
+          k.0,
+          ⊎_elim
+              (λ is. absurd (subst (λ (z : Claim). HasRecord z t) (nobodys (g.slot t) is) k.1))
+              (λ not. subst (λ (z : Claim). HasRecord z t) (sym (cond_false (has (g.slot t) gone) (Cleared None) (g.claims (g.slot t)) not)) k.1)
+              (true_or_false (has (g.slot t) gone)),
+        )
+
+        told : Follows g by (entry_of p place d ∷ g.log) q → (t : ℕ) → IsTold (Next d q gone) t
+        told f t = ⊎_elim
+            (λ none. inl none)
+            (λ rest. ⊎_elim
+            (λ k. inr (inl (kept_on t k)))
+            (λ (u : (n : ℕ) × (has t (unlinked_of n g.log) ≡ true)). inr (inr (u.0, f.more u.0 t u.1)))
+            rest)
+            (a.world.told t)
 
         slots : (t : ℕ) → t < 256 → HasSlot tree_of fits (Next d q gone) (set values 0 (Lists q)) t
         slots t small = let o = a.world.slots t small in record {
@@ -149,6 +169,7 @@ module _ {S : Type 0} (tree_of : S → Node) (fits : S → Type 0) where
           slots = slots;
           notes = a.world.notes;
           unborn = λ t later. let more = f.stamps in a.world.unborn t (omega arith);
+          told = told f;
           few = a.world.few;
           ungiven = f.ungiven;
           each = views_next g (Next d q gone) views by (Some (Token _)) (grows f) (record {
@@ -159,6 +180,7 @@ module _ {S : Type 0} (tree_of : S → Node) (fits : S → Type 0) where
             walk = deed_walk d p g.registry q (history g.log) a.world.replays a.answer a.does k.walk;
             reads = k.reads;
             untracked = k.untracked;
+            unlinked = k.unlinked ∙ sym (quiet (p.number == p.number) (history g.log) (unlinked_of p.number g.log));
             shown = k.shown;
           }) a.world.each;
         }
@@ -167,19 +189,19 @@ module _ {S : Type 0} (tree_of : S → Node) (fits : S → Type 0) where
     same_states q e = record { waited = λ t is. absurd (cc); others = λ t not. e t }
 
     pub refuses : (q : Contents) → Doing tree_of fits g values views by p place Full q → Done tree_of fits values views by (Token (done place Full p)) q
-    refuses q a = sweeps Full q [] a (same_states q (λ t. ap (λ z. state_of z t) a.does)) (λ t. refl) refl
+    refuses q a = sweeps Full q [] a (same_states q (λ t. ap (λ z. state_of z t) a.does)) (λ t. refl) (λ b h us. refl) refl
 
     pub heads : (answer : Option ℕ) (q : Contents) → Doing tree_of fits g values views by p place (Head answer) q → Done tree_of fits values views by (Token (done place (Head answer) p)) q
-    heads answer q a = sweeps (Head answer) q [] a (same_states q (λ t. ap (λ z. state_of z t) a.does.1)) (λ t. refl) refl
+    heads answer q a = sweeps (Head answer) q [] a (same_states q (λ t. ap (λ z. state_of z t) a.does.1)) (λ t. refl) (λ b h us. refl) refl
 
     pub nexts : (s : ℕ) (answer : Option ℕ) (q : Contents) → Doing tree_of fits g values views by p place (Next s answer) q → Done tree_of fits values views by (Token (done place (Next s answer) p)) q
-    nexts s answer q a = sweeps (Next s answer) q [] a (same_states q (λ t. ap (λ z. state_of z t) a.does.2)) (λ t. refl) refl
+    nexts s answer q a = sweeps (Next s answer) q [] a (same_states q (λ t. ap (λ z. state_of z t) a.does.2)) (λ t. refl) (λ b h us. refl) refl
 
     pub snaps : (w : ℕ) (q : Contents) → Doing tree_of fits g values views by p place (Snap w) q → Done tree_of fits values views by (Token (done place (Snap w) p)) q
-    snaps w q a = sweeps (Snap w) q [] a (same_states q (λ t. a.does.3.states t)) (λ t. refl) refl
+    snaps w q a = sweeps (Snap w) q [] a (same_states q (λ t. a.does.3.states t)) (λ t. refl) (λ b h us. refl) refl
 
     pub unsnaps : (w : ℕ) (gone : _) (q : Contents) → Doing tree_of fits g values views by p place (Unsnap w gone) q → Done tree_of fits values views by (Token (done place (Unsnap w gone) p)) q
-    unsnaps w gone q a = sweeps (Unsnap w gone) q gone.items a (record { waited = waited; others = λ t not. a.does.2.kept t not }) (λ t. refl) refl
+    unsnaps w gone q a = sweeps (Unsnap w gone) q gone.items a (record { waited = waited; others = λ t not. a.does.2.kept t not }) (λ t. refl) (λ b h us. refl) refl
       where
         waited : (t : ℕ) → has t gone.items ≡ true → (t < 256) × (state_of g.registry t ≡ Waits) × (state_of q t ≡ Clearing)
         waited t is =

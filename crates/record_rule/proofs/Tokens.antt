@@ -16,6 +16,7 @@ use Rattle.record_rule.specs.declared.views.DeskView.TheVariants.{Root, Token, T
 use Rattle.record_rule.specs.Notes.{ReachesTo, newest_update}
 use Rattle.record_rule.specs.Views.{claim_at, claiming, showing, new_token, left_of, most_tokens}
 use Rattle.record_rule.specs.World.{Facts, Has, IsToken, AreTokens, Fits, IsRecord, IsSlot, HasSlot, IsWorld}
+use Rattle.record_rule.proofs.Deeds.{unlinked_none}
 use Rattle.record_rule.proofs.Moving.{all_left_set, all_left_more, views_next}
 use Rattle.record_rule.proofs.Others.{Grows, stays}
 use Rattle.record_rule.proofs.Slots.{changed, changed_here, changed_else}
@@ -81,6 +82,7 @@ joined_grows g by other apart = record {
   same = λ _. refl;
   seat = λ n less off. seat_else by other (g.seat n) (λ e. off (inr e));
   own = λ n less off. refl;
+  unlinked = λ n less off. refl;
   claims = λ s held off. (refl, seat_else by other (g.owner s) (λ e. off (inr e)));
   walk = λ n less off walking slots w. w;
   notes = λ t. inl refl;
@@ -99,6 +101,7 @@ token_joined g by other i p at k = record {
   walk = k.walk;
   reads = k.reads;
   untracked = k.untracked;
+  unlinked = k.unlinked;
   shown = k.shown;
 }
 
@@ -118,6 +121,7 @@ claim_more g by s p c k h = record {
   walk = k.walk;
   reads = k.reads;
   untracked = k.untracked;
+  unlinked = k.unlinked;
   shown = k.shown;
 }
 
@@ -147,6 +151,7 @@ tokens_seated g by new (p ∷ ps) k = (
     walk = k.0.walk;
     reads = k.0.reads;
     untracked = k.0.untracked;
+    unlinked = k.0.unlinked;
     shown = k.0.shown;
   },
   tokens_seated g by new ps k.1,
@@ -174,6 +179,7 @@ issued_grows g by s new is = record {
   same = λ off. refl;
   seat = λ n less off. refl;
   own = λ n less off. refl;
+  unlinked = λ n less off. refl;
   claims = λ t held off. (refl, changed_else g.owner s t new (λ e. off (ap g.owner e ∙ is)));
   walk = λ n less off walking slots w. w;
   notes = λ t. inl refl;
@@ -213,6 +219,7 @@ module _ {S : Type 0} (tree_of : S → Node) (fits : S → Type 0) where
         same = λ off. absurd (off (sym k.0));
         seat = λ n less off. changed_else g.seat g.given n new (λ e. omega arith);
         own = λ n less off. refl;
+        unlinked = λ n less off. refl;
         claims = λ s held off. (refl, refl);
         walk = λ n less off walking slots w. w;
         notes = λ t. inl refl;
@@ -229,6 +236,7 @@ module _ {S : Type 0} (tree_of : S → Node) (fits : S → Type 0) where
           slots = λ s small. same_slot g (seated g new) values s refl refl refl refl refl refl (world.slots s small);
           notes = world.notes;
           unborn = world.unborn;
+          told = world.told;
           few = (let n = few in omega arith);
           ungiven = λ n over. world.ungiven n (omega arith);
           each = split_views g (seated g new) views by (Some (Root (given + 1) back)) (Some (Token (new_token given))) grows
@@ -241,6 +249,7 @@ module _ {S : Type 0} (tree_of : S → Node) (fits : S → Type 0) where
                 walk = u.1;
                 reads = tt;
                 untracked = tt;
+                unlinked = sym (unlinked_none given g.log u.0);
                 shown = tt;
               })
               world.each;
@@ -268,6 +277,7 @@ module _ {S : Type 0} (tree_of : S → Node) (fits : S → Type 0) where
           slots = λ t small. same_slot g (issued g s new) values t refl refl refl refl refl refl (world.slots t small);
           notes = world.notes;
           unborn = world.unborn;
+          told = world.told;
           few = world.few;
           ungiven = world.ungiven;
           each = split_views g (issued g s new) views by (Some (Token (claiming s Nothing p))) (Some (Ticket s stamp notes bare)) grows
@@ -282,6 +292,7 @@ module _ {S : Type 0} (tree_of : S → Node) (fits : S → Type 0) where
                 walk = k.walk;
                 reads = k.reads;
                 untracked = k.untracked;
+                unlinked = k.unlinked;
                 shown = k.shown;
               })
               (h.0, changed_here g.owner s s new refl, h.2)
@@ -307,6 +318,7 @@ module _ {S : Type 0} (tree_of : S → Node) (fits : S → Type 0) where
           slots = λ t small. same_slot g (joined g by other) values t refl refl refl refl refl refl (world.slots t small);
           notes = world.notes;
           unborn = world.unborn;
+          told = world.told;
           few = world.few;
           ungiven = world.ungiven;
           each = merge_views g (joined g by other) views by other (Some both) (joined_grows g by other apart) fitting world.each;
@@ -348,6 +360,7 @@ module _ {S : Type 0} (tree_of : S → Node) (fits : S → Type 0) where
           slots = λ t small. same_slot g (issued g s new) values t refl refl refl refl refl refl (world.slots t small);
           notes = world.notes;
           unborn = world.unborn;
+          told = world.told;
           few = world.few;
           ungiven = world.ungiven;
           each = split_views g (issued g s new) views by (Some Lent) (Some (Ticket s stamp notes bare)) (issued_grows g by s new h.1)
@@ -383,6 +396,7 @@ module _ {S : Type 0} (tree_of : S → Node) (fits : S → Type 0) where
         walk = c.walk;
         reads = c.reads;
         untracked = c.untracked;
+        unlinked = c.unlinked;
         shown = (owned_reaches g values views other s stamp notes bare world t, c.shown);
       })
 

@@ -19,8 +19,8 @@ use Rattle.record_rule.specs.Log.{history}
 use Rattle.record_rule.specs.Notes.{GrowsTo, AreNotes, NoneAbove}
 use Rattle.record_rule.specs.Steps.{Wrote, Drained}
 use Rattle.record_rule.specs.Views.{claim_at, claiming, left_of}
-use Rattle.record_rule.specs.World.{Facts, Has, IsToken, Fits, IsSlot, IsWorld}
-use Rattle.record_rule.proofs.Moving.{Follows, moved, grows_moved, token_moved, world_moved, set_there}
+use Rattle.record_rule.specs.World.{Facts, Has, IsToken, Fits, HasRecord, IsSlot, IsWorld}
+use Rattle.record_rule.proofs.Moving.{Follows, ToldHere, moved, grows_moved, only_stamp, token_moved, told_still, world_moved, set_there}
 use Rattle.record_rule.proofs.Others.{Grows, untracked_stay}
 use Rattle.record_rule.proofs.Slots.{changed_here, stamp_given}
 
@@ -32,6 +32,8 @@ module _ {S : Type 0} (tree_of : S → Node) (fits : S → Type 0) where
   follows_same : (g : Facts) (values : List (DeskValue S)) (views : List (Option DeskView)) (by : ℕ) → IsWorld tree_of fits g values views → Follows g by g.log g.registry
   follows_same g values views by world = record {
     own = λ n less apart. refl;
+    unlinked = λ n less apart. refl;
+    more = λ n t e. e;
     walk = λ n less apart walking slots w. w;
     replays = world.replays;
     walkers = refl;
@@ -45,6 +47,7 @@ module _ {S : Type 0} (tree_of : S → Node) (fits : S → Type 0) where
     pub world : IsWorld tree_of fits g values views
     pub seen : get_elem? views by ≡ some (Some v)
     pub there : get_elem? values (s + 1) ≡ some (Record old)
+    pub small : s < 256
     pub owner : g.owner s ≡ by
     pub at : g.slot (stamp_in (history g.log) s) ≡ s
     pub grown : GrowsTo (g.notes (stamp_in (history g.log) s)) list
@@ -52,6 +55,7 @@ module _ {S : Type 0} (tree_of : S → Node) (fits : S → Type 0) where
     pub noted : AreNotes (stamp_in (history g.log) s) list
     pub is : IsSlot tree_of fits c (state_of g.registry s) s (stamp_in (history g.log) s) s lives list new
     pub left : left_of (Some w) ≡ left_of (Some v)
+    pub told : ToldHere g by g.log g.registry s c (stamp_in (history g.log) s) s lives list
 
   pub turned : (g : Facts) (values : List (DeskValue S)) (views : List (Option DeskView)) (by s : ℕ) (v w : DeskView) (c : Claim) (lives : Bool) (list : List Noted) (old new : Rep S) → Turning g values views by s v w c lives list old new
       → (Grows (λ j. j ≡ by) g (moved g by g.log g.registry s c (stamp_in (history g.log) s) s lives list) → Fits (moved g by g.log g.registry s c (stamp_in (history g.log) s) s lives list) by (Some w))
@@ -74,7 +78,7 @@ module _ {S : Type 0} (tree_of : S → Node) (fits : S → Type 0) where
               is = subst (λ (z : Claim × ℕ × Bool × List Noted). IsSlot tree_of fits z.0 (state_of g.registry s) s stamp z.1 z.2 z.3 new)
                   (λ i. (sym (changed_here g.claims s s c refl) i, sym (changed_here g.slot stamp stamp s refl) i, sym (changed_here g.live stamp stamp lives refl) i, sym (changed_here g.notes stamp stamp list refl) i)) t.is;
             })
-            t.noted (stamp_given (history g.log) s) grows (fitting grows),
+            t.noted (stamp_given (history g.log) s) (only_stamp tree_of fits g values views s t.world t.small) t.told grows (fitting grows),
       )
 
   pub record_is : (a b : Rep S) → Record a ≡ Record b → a ≡ b
@@ -96,7 +100,7 @@ module _ {S : Type 0} (tree_of : S → Node) (fits : S → Type 0) where
       → IsToken (moved g by g.log g.registry s c (stamp_in (history g.log) s) s lives list) by (claiming s c p)
   claimed g by s p c lives list k small grows =
       token_moved g by g.log g.registry s c (stamp_in (history g.log) s) s lives list p p.own p.untracked k grows small k.own k.walk
-      (untracked_stay (λ j. j ≡ by) g (moved g by g.log g.registry s c (stamp_in (history g.log) s) s lives list) grows p.untracked k.untracked)
+      (untracked_stay (λ j. j ≡ by) g (moved g by g.log g.registry s c (stamp_in (history g.log) s) s lives list) grows p.untracked k.untracked) k.unlinked
 
   pub wrote : (g : Facts) (values : List (DeskValue S)) (views : List (Option DeskView)) (by : ℕ) (l : ℕ) (x y : DeskValue S) (v w : DeskView) → IsWorld tree_of fits g values views → (t : Wrote tree_of fits l x y v w)
       → get_elem? views by ≡ some (Some (Token t.token)) → get_elem? values (t.slot + 1) ≡ some (Record t.old) → Turned values views by t.slot t.new (Token (claiming t.slot (Written t.stamp (t.note ∷ [])) t.token))
@@ -111,6 +115,7 @@ module _ {S : Type 0} (tree_of : S → Node) (fits : S → Type 0) where
         world = world;
         seen = seen;
         there = there;
+        small = f.0.0;
         owner = f.0.1;
         at = f.1.3;
         grown = inr (t.note, ap (λ l. t.note ∷ l) (sym f.1.4), subst (NoneAbove t.note.note.update) (sym f.1.4) tt);
@@ -118,6 +123,7 @@ module _ {S : Type 0} (tree_of : S → Node) (fits : S → Type 0) where
         noted = (ap (λ z. z.stamp) t.is.note ∙ named, t.is.long, tt, tt);
         is = (f.1.0, refl, f.1.2, refl, t.is.some, (refl, named, record { newest = t.note; older = []; list = refl; note = t.is.note; share = t.is.share }));
         left = refl;
+        told = inr (inl (refl, f.0.0, f.1.2));
       }
       (claimed g by s t.token c true (t.note ∷ []) k f.0.0)
 
@@ -132,6 +138,7 @@ module _ {S : Type 0} (tree_of : S → Node) (fits : S → Type 0) where
         world = world;
         seen = seen;
         there = there;
+        small = f.0.0;
         owner = f.0.1;
         at = f.1.3.0;
         grown = inl refl;
@@ -139,5 +146,6 @@ module _ {S : Type 0} (tree_of : S → Node) (fits : S → Type 0) where
         noted = world.notes stamp;
         is = (f.1.0, refl, t.none);
         left = refl;
+        told = told_still g by g.log g.registry s Emptied stamp s (g.live stamp) (follows_same g values views by world) f.1.3.0 (λ h. subst (λ (z : Claim). HasRecord z stamp) f.0.2 h) (world.told stamp);
       }
       (claimed g by s t.token Emptied (g.live stamp) (g.notes stamp) k f.0.0)

@@ -2,7 +2,7 @@
 use Rattle.std.specs.Prelude.{◌≡◌, ◌≢◌, ◌↔◌, ℕ, ◌+◌, ◌<◌, ◌==◌, cond, Bool, true, false, List, [], ◌∷◌, length, Option, Some, None}
 use Rattle.cordz_core.specs.declared.slot.SlotState.TheVariants.{Free as IsFree}
 use Rattle.cordz_core.specs.declared.answers.Settled.TheVariants.{Deleted}
-use Rattle.cordz_core.specs.History.{History, Reserves, Frees, Tracks, Unlinks, Settles, Snaps, Unsnaps, Tracked, use_of, stamps_given}
+use Rattle.cordz_core.specs.History.{History, Reserves, Frees, Tracks, Unlinks, Settles, Snaps, Unsnaps, Tracked, use_of, stamp_in, stamps_given}
 use Rattle.cordz_core.specs.Legal.{state_after, head_after, next_after, IsDeletionOf}
 use Rattle.cordz_core.specs.Queue.{has}
 use Rattle.record_rule.specs.declared.views.Deed.{Deed}
@@ -49,6 +49,15 @@ IsLog (e ∷ es) = (e.place ≡ length (history (e ∷ es))) × IsAnswer e.deed 
 abbrev pub of_token : ℕ → List LogEntry → List LogEntry
 of_token n [] = []
 of_token n (e ∷ es) = cond (n == e.by) (e ∷ of_token n es) (of_token n es)
+
+-- the stamps of the records that a token unlinked
+abbrev pub unlinked_by : Deed → Bool → History → List ℕ → List ℕ
+unlinked_by (Unlink s) b h us = cond b (stamp_in h s ∷ us) us
+unlinked_by _ b h us = us
+
+abbrev pub unlinked_of : ℕ → List LogEntry → List ℕ
+unlinked_of n [] = []
+unlinked_of n (e ∷ es) = unlinked_by e.deed (n == e.by) (history es) (unlinked_of n es)
 
 -- how many actions a token made
 abbrev pub made_of : List LogEntry → ℕ

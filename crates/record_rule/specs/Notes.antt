@@ -40,6 +40,11 @@ NoneShownLater stamp update (u ∷ us) = (u.0 ≡ stamp → u.1 ≤ update) × N
 abbrev pub GrowsTo : List Noted → List Noted → Type 0
 GrowsTo old new = (new ≡ old) ⊎ ((n : Noted) × (new ≡ n ∷ old) × NoneAbove n.note.update old)
 
+-- the stamps of the tickets that were untracked
+abbrev pub stamps_of : List (ℕ × List Noted) → List ℕ
+stamps_of [] = []
+stamps_of (u ∷ us) = u.0 ∷ stamps_of us
+
 module _ (notes : ℕ → List Noted) where
   abbrev pub AllRead : List Noted → Type 0
   AllRead [] = Unit {0}

@@ -10,6 +10,7 @@ use Rattle.cordz_core.specs.declared.slot.SlotState.TheVariants.{Free, Reserved,
 use Rattle.cordz_core.specs.Contents.{Contents, state_of, birth_of}
 use Rattle.cordz_core.specs.History.{History, stamps_given, stamp_in}
 use Rattle.cordz_core.specs.Legal.{Replays}
+use Rattle.cordz_core.specs.Queue.{has}
 use Rattle.cordz_core.specs.Walks.{Read, IsWalk}
 use Rattle.record_rule.specs.declared.values.DeskValue.{DeskValue}
 use Rattle.record_rule.specs.declared.values.DeskValue.TheVariants.{List as Lists, Record}
@@ -22,8 +23,8 @@ use Rattle.record_rule.specs.declared.views.Noted.{Noted}
 use Rattle.record_rule.specs.declared.views.TokenView.{TokenView}
 use Rattle.record_rule.specs.declared.views.DeskView.{DeskView}
 use Rattle.record_rule.specs.declared.views.DeskView.TheVariants.{Root, Token, Ticket, Lent}
-use Rattle.record_rule.specs.Log.{history, IsLog, of_token, is_walking, walk_of}
-use Rattle.record_rule.specs.Notes.{AreNotes, AllRead, AllShown, AllUntracked}
+use Rattle.record_rule.specs.Log.{history, IsLog, of_token, unlinked_of, is_walking, walk_of}
+use Rattle.record_rule.specs.Notes.{AreNotes, AllRead, AllShown, AllUntracked, stamps_of}
 use Rattle.record_rule.specs.Views.{claim_at, all_left, most_actions, most_tokens}
 
 -- what is so besides the values and what the tokens know
@@ -66,6 +67,7 @@ pub record IsToken (g : Facts) (by : ℕ) (p : TokenView) : Type 0 where
   pub walk : WalksIf (is_walking p.own) g.registry (history g.log) p.number (walk_of p.own)
   pub reads : AllRead g.notes p.reads
   pub untracked : AllUntracked g.notes g.live p.untracked
+  pub unlinked : stamps_of p.untracked ≡ unlinked_of p.number g.log
   pub shown : AllShown g.notes p.shown
 
 abbrev pub AreTokens : Facts → ℕ → List TokenView → Type 0
@@ -78,6 +80,16 @@ Fits g by (Some (Root given back)) = (by ≡ g.root) × (given ≡ g.given) × A
 Fits g by (Some (Token p)) = IsToken g by p
 Fits g by (Some (Ticket s stamp notes bare)) = Has g by s (Owned stamp notes bare)
 Fits g by (Some Lent) = Unit {0}
+
+-- the claim is that of a record of this stamp which is written and not unlinked
+abbrev pub HasRecord : Claim → ℕ → Type 0
+HasRecord (Written own ns) stamp = own ≡ stamp
+HasRecord (Owned own ns bare) stamp = own ≡ stamp
+HasRecord _ stamp = ⊥
+
+-- no note was set under the stamp, or its slot still has the record, or a token unlinked it
+abbrev pub IsTold : Facts → ℕ → Type 0
+IsTold g stamp = (g.notes stamp ≡ []) ⊎ (((g.slot stamp < 256) × HasRecord (g.claims (g.slot stamp)) stamp) ⊎ ((n : ℕ) × (has stamp (unlinked_of n g.log) ≡ true)))
 
 module _ {S : Type 0} where
   -- a value at home, or as it was taken out
@@ -141,6 +153,7 @@ module _ {S : Type 0} where
       pub slots : (s : ℕ) → s < 256 → HasSlot g values s
       pub notes : (stamp : ℕ) → AreNotes stamp (g.notes stamp)
       pub unborn : (stamp : ℕ) → stamps_given (history g.log) < stamp → (g.notes stamp ≡ []) × (g.live stamp ≡ true)
+      pub told : (stamp : ℕ) → IsTold g stamp
       pub few : g.given ≤ most_tokens
       pub ungiven : (n : ℕ) → g.given ≤ n → (of_token n g.log ≡ []) × (birth_of g.registry n ≡ None)
       pub each : (by : ℕ) (v : Option DeskView) → get_elem? views by ≡ some v → Fits g by v

@@ -6,9 +6,9 @@ use Rattle.record_rule.specs.Steps.{registry_of, IsList, Makes, Does}
 use Rattle.record_rule.specs.Views.{token_in, IsTokenView, done, most_actions}
 use Rattle.record_rule.specs.declared.views.DeskView.{DeskView}
 use Rattle.record_rule.specs.declared.views.DeskView.TheVariants.{Token}
-use Rattle.cordz_desk.specs.Asking.{Can, Performed}
+use Rattle.cordz_desk.specs.Asking.{Can, IsOnceOver, Performed}
 use Rattle.cordz_desk.specs.Shares.{tree_in, IsShare}
-use Rattle.cordz_desk.proofs.Finds.{at_turn, found_small, found_list, found_clock, found_can, does_of, deed_few}
+use Rattle.cordz_desk.proofs.Finds.{at_turn, found_small, found_once, found_list, found_clock, found_can, does_of, deed_few}
 use Rattle.cordz_desk.proofs.desk.CordzDesk.act.Goals as goal
 
 pub perform-deed-requires-clause-list : goal.perform-deed-requires-clause-list
@@ -56,6 +56,14 @@ pub returns-clause-done : goal.returns-clause-done
 returns-clause-done g c =
     let e = c.leave.ensures.view in
     ((registry_of c.perform-deed.new.value).clock, ap token_in e ∙ ap (λ (v : DeskView). done (registry_of c.perform-deed.new.value).clock c.perform-deed.result (token_in v)) c.enter-turn.ensures.pass.1)
+
+pub returns-clause-once : goal.returns-clause-once
+returns-clause-once g c =
+    let is = c.value.ensures.value ∙ c.enter-turn.ensures.turn.1 in
+    let p = token_in (desk_view c.args.pass.now) in
+    let d = c.perform-deed.result in
+    found_once tree_in IsShare d _ p (at_turn tree_in IsShare _ _ p c.enter-turn.ensures.agreed c.requires.token)
+    (subst (λ z. IsOnceOver d (registry_of z)) is c.perform-deed.ensures.once)
 
 pub returns-clause-small : goal.returns-clause-small
 returns-clause-small g c =
