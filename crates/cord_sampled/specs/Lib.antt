@@ -1,0 +1,7 @@
+pub mod Copies
+pub mod Leaving
+pub mod Props
+pub mod Records
+pub mod Refusals
+pub mod Sampled
+pub mod Tracking
