@@ -4,4 +4,5 @@ pub mod Props
 pub mod Records
 pub mod Refusals
 pub mod Sampled
+pub mod Showing
 pub mod Tracking

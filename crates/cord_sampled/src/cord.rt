@@ -26,6 +26,7 @@ pub struct SampledCord<P: Naming, D: DeskNaming> {
 impl<P: Naming, D: DeskNaming> SampledCord<P, D> {
     ghost use Rattle.cord_sampled.specs.Sampled.{cord_in, ticket_in};
     ghost use Rattle.cord_sampled.specs.Leaving.{IsLeft, gone_mark};
+    ghost use Rattle.cord_sampled.specs.Showing.{IsShown, IsSameRecord};
 
     /// The cord without its record.
     pub fn cord(&self) -> &Cord<P>
@@ -50,5 +51,19 @@ impl<P: Naming, D: DeskNaming> SampledCord<P, D> {
         };
         cord.release(hand.pool, &mut hand.worker);
         mark
+    }
+
+    /// Shows the session's pass the record's update, if there is a record: no note of it that the pass read before is newer, and none that it
+    /// reads later is older.
+    pub fn show<B: Releaser>(&mut self, hand: &mut Hand<'_, P, D, B>)
+        ensures shown { IsShown (ticket_in self.old) (token_of hand.old.pass) (token_of hand.new.pass) }
+        ensures cord { cord_in self.new ≡ cord_in self.old }
+        ensures ticket { IsSameRecord (ticket_in self.old) (ticket_in self.new) }
+        ensures worker { hand.new.worker ≡ hand.old.worker }
+        ensures same { (hand.new.stride ≡ hand.old.stride) × (hand.new.made ≡ hand.old.made) }
+    {
+        if let Some(ticket) = &mut self.ticket {
+            hand.cordz.show(&mut hand.pass, ticket);
+        }
     }
 }
