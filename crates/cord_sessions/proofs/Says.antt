@@ -23,7 +23,7 @@ says-of-bytes Run o bytes Done read said = record {
   script = said.script;
   books = said.books;
   history = said.history;
-  ran = record { bytes = bytes; read = read; spelled = said.ran.spelled; run = said.ran.run; called = said.ran.called };
+  ran = record { bytes = bytes; read = read; spelled = said.ran.spelled; run = said.ran.run; caused = said.ran.caused; called = said.ran.called };
   written = said.written;
   faultless = said.faultless;
 }
@@ -40,7 +40,7 @@ says-of-bytes Run o bytes WriteFault read said = record {
   script = said.script;
   books = said.books;
   history = said.history;
-  ran = record { bytes = bytes; read = read; spelled = said.ran.spelled; run = said.ran.run; called = said.ran.called };
+  ran = record { bytes = bytes; read = read; spelled = said.ran.spelled; run = said.ran.run; caused = said.ran.caused; called = said.ran.called };
   failed = said.failed;
   part = said.part;
 }

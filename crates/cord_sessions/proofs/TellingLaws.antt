@@ -38,6 +38,10 @@ told-books items (v ∷ all) =
     ap (λ (os : List (Option Reply)). os ∷ map (λ rs. map (reply_of {Report = Unit {0}}) rs) (map (λ w. map told_by (items w)) all)) (told-replies (items v))
     ∙ ap (λ (oss : List (List (Option Reply))). map (λ (reply : Reply). Some reply) (map reply_to (items v)) ∷ oss) (told-books items all)
 
+pub told-lists : {V : Type 0} (items : V → List Answer) (all : List V) → map (λ v. book_of (items v)) all ≡ map book_of (map items all)
+told-lists items [] = refl
+told-lists items (v ∷ all) = ap (λ (books : List Book). book_of (items v) ∷ books) (told-lists items all)
+
 -- ---- externals
 
 -- a refusal made none

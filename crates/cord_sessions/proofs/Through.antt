@@ -47,7 +47,7 @@ module _ (o : Outside) (kept : List ℕ) (held : Option (List ℕ)) (faults : �
   read-through bytes read = record { gave = read.gave; end = read.end; within = read.within; faultless = read.faultless }
 
   ran-through : (script : Script) (books : List Book) (history : List Entry) → IsRunOf buffered script books history → IsRunOf o script books history
-  ran-through script books history ran = record { bytes = ran.bytes; read = read-through ran.bytes ran.read; spelled = ran.spelled; run = ran.run; called = ran.called }
+  ran-through script books history ran = record { bytes = ran.bytes; read = read-through ran.bytes ran.read; spelled = ran.spelled; run = ran.run; caused = ran.caused; called = ran.called }
 
   module _ (more : Extends o.held held) where
     done-through : (command : Asked) (after : Ending) → IsDone command buffered → IsEmptied kept held faults after o.held_after o.write_faults_after → SaysOf command o Done

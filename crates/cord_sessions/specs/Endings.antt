@@ -22,6 +22,7 @@ use Rattle.cord_seats.specs.Boxes.{AreCalled, AreBack}
 use Rattle.cord_sessions.specs.declared.asked.Asked.{Asked}
 use Rattle.cord_sessions.specs.declared.asked.Asked.TheVariants.{Run, Check}
 use Rattle.cord_sessions.specs.Asks.{Asks}
+use Rattle.cord_sessions.specs.Causes.{AreCaused}
 use Rattle.cord_sessions.specs.declared.ending.TheConstants.{MOST_SCRIPT}
 use Rattle.cord_sessions.specs.declared.ending.Ending.{Ending}
 use Rattle.cord_sessions.specs.declared.ending.Ending.TheVariants.{Done, Refused, Usage, ReadFault, WriteFault, Memory, TooLong}
@@ -100,13 +101,14 @@ pub record Told (held held_after : Option (List ℕ)) (faults faults_after : ℕ
   pub whole : ¬ (Rose faults faults_after) → Appends held held_after line
   pub later : faults ≤ faults_after
 
--- The source had a script, and these are the books and the history of a run of it over trees with so many boxes. Each external called the
--- next box of its session once.
+-- The source had a script, and these are the books and the history of a run of it over trees with so many boxes. Each refusal for want of
+-- something shows its cause, and each external called the next box of its session once.
 pub record IsRunOf (o : Outside) (script : Script) (books : List Book) (history : List Entry) : Type 0 where
   pub bytes : List ℕ
   pub read : IsRead o bytes
   pub spelled : Spells bytes script
   pub run : IsTreeRun script (length o.boxes) books history
+  pub caused : AreCaused script (length o.boxes) books
   pub called : AreCalled (externals_in script.sessions books) o.boxes o.boxes_after
 
 -- the script was run, and the whole text of its books and its history written without a fault

@@ -4,3 +4,4 @@ pub mod Endings
 pub mod Parts
 pub mod Feeding
 pub mod Telling
+pub mod Causes

@@ -21,12 +21,14 @@ use Rattle.cord_sessions.specs.declared.ending.Ending.{Ending}
 use Rattle.cord_sessions.specs.declared.ending.Ending.TheVariants.{Done, Refused, Usage, ReadFault, WriteFault, Memory, TooLong}
 use Rattle.cord_sessions.specs.declared.asked.Asked.{Asked}
 use Rattle.cord_sessions.specs.declared.asked.Asked.TheVariants.{Run, Check}
+use Rattle.cord_sessions.specs.Causes.{AreCaused}
 use Rattle.cord_sessions.specs.Endings.{Told, ComeBack, check_line, read_fault_line, too_long_line}
 
 -- these books and this history are those of a run of the script that the bytes spell, and the boxes were called for its externals
 pub record IsRunOfBytes (bytes : List ℕ) (boxes boxes_after : List Handed) (script : Script) (books : List Book) (history : List Entry) : Type 0 where
   pub spelled : Spells bytes script
   pub run : IsTreeRun script (length boxes) books history
+  pub caused : AreCaused script (length boxes) books
   pub called : AreCalled (externals_in script.sessions books) boxes boxes_after
 
 pub record WritesAll (bytes : List ℕ) (held held_after : Option (List ℕ)) (faults faults_after : ℕ) (boxes boxes_after : List Handed) : Type 0 where

@@ -4,6 +4,7 @@ ghost use Rattle.cord_runs.specs.Boxes.{externals_in};
 ghost use Rattle.cord_runs.specs.Scripts.{IsTreeRun};
 ghost use Rattle.cord_seats.specs.Boxes.{handed_in, AreCalled, AreBack};
 ghost use Rattle.script_reader.specs.Limits.{IsWithinLimits};
+ghost use Rattle.cord_sessions.specs.Causes.{AreCaused};
 
 use crate::telling::books_of;
 use cord_board::Entry;
@@ -46,6 +47,7 @@ pub fn run_script<R: Threads + Wait + Sync, G: Gate + Sync>(
     requires boxes { length releasers.items ≤ 256 }
     requires calls { All (λ b. calls_of b < 2 ^ 64 - 1) releasers.items }
     ensures run { IfOk result (λ run. IsTreeRun script.now (length releasers.items) run.books.items run.history.items) }
+    ensures caused { IfOk result (λ run. AreCaused script.now (length releasers.items) run.books.items) }
     ensures left { IfOk result (λ run. run.numbers_left ≡ 0) }
     ensures called { IfOk result (λ run. AreCalled (externals_in script.now.sessions run.books.items)
         (handed_in calls_of latest_of releasers.items) (handed_in calls_of latest_of run.returned.items)) }

@@ -6,7 +6,7 @@ use Rattle.cord_runs.specs.Boxes.{externals_in}
 use Rattle.cord_commands.specs.declared.answer.Answer.{Answer}
 use Rattle.cord_sessions.proofs.BoxLaws.{called-back, called-same}
 use Rattle.cord_sessions.proofs.Sounds.{runnable, few-needed}
-use Rattle.cord_sessions.proofs.TellingLaws.{told-books, all-told}
+use Rattle.cord_sessions.proofs.TellingLaws.{told-books, told-lists, all-told}
 use Rattle.cord_sessions.proofs.running.run_script.Goals as goal
 
 pub run_script-requires-clause-short : goal.run_script-requires-clause-short
@@ -37,3 +37,12 @@ returns-in-Ok-books_of-clause-called g c =
 
 pub returns-in-Err-books_of-clause-back : goal.returns-in-Err-books_of-clause-back
 returns-in-Err-books_of-clause-back g c = called-back _ _ _ c.in-Ok.ensures.boxes
+
+pub returns-in-Ok-books_of-clause-caused : goal.returns-in-Ok-books_of-clause-caused
+returns-in-Ok-books_of-clause-caused g c =
+    let all = c.in-Ok.ran.answers.items in
+    record {
+      answers = map (λ (v : Vec Answer Global). v.items) all;
+      told = c.in-Ok-books_of.ensures ∙ told-lists {V = Vec Answer Global} (λ v. v.items) all;
+      shown = c.in-Ok.ensures.caused;
+    }

@@ -1,6 +1,7 @@
 -- The fault that was told is the first one, and the text is that of the run.
 use Rattle.std.proofs.Common.{refl, sym, subst, ℕ}
 use Rattle.cord_runs.specs.Scripts.{IsTreeRun}
+use Rattle.cord_sessions.specs.Causes.{AreCaused}
 use Rattle.cord_sessions.proofs.BoxLaws.{count-handed}
 use Rattle.cord_sessions.proofs.FeedingLaws.{tells}
 use Rattle.cord_sessions.proofs.RunSays.{run-says}
@@ -31,5 +32,6 @@ returns-in-Ok-run_script g c = λ bytes got.
     run.books.items run.history.items run.numbers_left c.write_out-ending.result of_run.left (record {
       spelled = c.in-Ok.ensures.found bytes got;
       run = subst (λ (n : ℕ). IsTreeRun script n run.books.items run.history.items) (sym (count-handed _ _ c.args.releasers.items)) of_run.run;
+      caused = subst (λ (n : ℕ). AreCaused script n run.books.items) (sym (count-handed _ _ c.args.releasers.items)) of_run.caused;
       called = of_run.called;
     }) c.write_out-ending.ensures.done c.write_out-ending.ensures.ending c.write_out-ending.ensures.failed
