@@ -42,6 +42,7 @@ impl<P: Naming, D: DeskNaming> SampledCord<P, D> {
         ensures mark { result ≡ gone_mark (ticket_in self) }
         ensures left { IsLeft P.limit (ticket_in self) (passes_of (cord_in self).tree) (token_of hand.old.pass) (token_of hand.new.pass)
             hand.old.worker hand.new.worker }
+        ensures acted { made_of (token_of hand.new.pass).own ≤ made_of (token_of hand.old.pass).own + 3 }
         ensures same { (hand.new.stride ≡ hand.old.stride) × (hand.new.made ≡ hand.old.made) }
     {
         let SampledCord { cord, ticket } = self;

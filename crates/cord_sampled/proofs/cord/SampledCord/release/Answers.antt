@@ -6,13 +6,14 @@ use Rattle.cordz_desk.specs.Tokens.{token_of}
 use Rattle.cord_value.specs.Views.{passes_of}
 use Rattle.cord_value.specs.Workers.{Keeps}
 use Rattle.cord_sampled.specs.Leaving.{IsGivenBack, IsLeft}
-use Rattle.cord_sampled.specs.Sampled.{cord_in}
+use Rattle.cord_sampled.specs.Sampled.{cord_in, ticket_in}
+use Rattle.cord_sampled.proofs.Acting.{left-acts}
 use Rattle.cord_sampled.proofs.GivenBack.{given-then}
 use Rattle.cord_sampled.proofs.cord.SampledCord.release.Goals as goal
 use Rattle.cord_sampled.proofs.cord.SampledCord.release.Goals.{in-Some, in-None}
 
-pub returns-clause-left : goal.returns-clause-left
-returns-clause-left g c =
+left : goal.returns-clause-left
+left g c =
     let limit = g.P.Naming.limit in
     let n = passes_of (cord_in c.args.self).tree in
     let a = token_of c.args.hand.now.pass in
@@ -30,3 +31,9 @@ returns-clause-left g c =
           subst (λ o. IsLeft limit o n a b u w) (sym x.in-None.is)
           (ap (λ z. token_of z.pass) x.hand-is, subst (λ (z : View). Keeps limit [] 0 n z w) (ap (λ z. z.worker) x.hand-is) c.release.ensures.worker)
     ]
+
+pub returns-clause-left : goal.returns-clause-left
+returns-clause-left g c = left g c
+
+pub returns-clause-acted : goal.returns-clause-acted
+returns-clause-acted g c = left-acts g.P.Naming.limit (ticket_in c.args.self) (passes_of (cord_in c.args.self).tree) _ _ _ _ (left g c)
