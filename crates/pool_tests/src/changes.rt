@@ -3,130 +3,11 @@ ghost use Rattle.std.specs.Prelude.{◌≡◌, ◌≤◌, length};
 ghost use Rattle.pool_rule.specs.Trades.{SameHolds};
 ghost use Rattle.node_pool.specs.Opened.{opened_table, opened_numbers, opened_passes, opened_workers, opened_boxes};
 
-use cord_port::LogReleaser;
+use crate::steps::{Boxes, Outcome, Step, taken};
 use cord_value::{Cord, CordError};
 use node_pool::{Closed, Naming, Opened, Pool, Worker};
 use std::alloc::Global;
 use std::marker::Brand;
-use std::mem;
-
-type Boxes = LogReleaser;
-
-/// A step on a cord.
-#[derive(Clone, Copy, Debug)]
-enum Step {
-    Append(&'static [u8]),
-    CutFront(u64),
-    CutBack(u64),
-    Range(u64, u64),
-    SetSum(u32),
-    Copy,
-    /// A cord of so many `s` is added behind.
-    Join(usize),
-    JoinFront(usize),
-    Double,
-}
-
-/// How long the cord is, whether it is a tree, its sum, and its first and its last byte.
-type Seen = (u64, bool, Option<u32>, Option<u8>, Option<u8>);
-
-/// What came of a step, and what is seen then.
-type Outcome = (Result<(), CordError>, Seen);
-
-/// A byte of a cord.
-fn byte_at<P: Naming>(cord: &Cord<P>, at: u64) -> Option<u8>
-    requires within { at ≤ length cord.now.bytes }
-{
-    let mut reading = cord.chunks();
-    reading.seek(at);
-    reading.read(1).first().copied()
-}
-
-fn seen_of<P: Naming>(cord: &Cord<P>) -> Seen {
-    let size = cord.len();
-    let last = match size.checked_sub(1) {
-        Some(last) => byte_at(cord, last),
-        None => None,
-    };
-    (size, cord.is_tree(), cord.sum(), byte_at(cord, 0), last)
-}
-
-/// The cord in the place of another one, which is released.
-fn replace<P: Naming>(
-    pool: &Pool<P, Boxes>,
-    w: &mut Worker<P>,
-    cord: &mut Cord<P>,
-    made: Result<Cord<P>, CordError>,
-) -> Result<(), CordError>
-    requires room { length w.old.holds ≤ 96 }
-    ensures same { SameHolds w.old.holds w.new.holds }
-{
-    match made {
-        Ok(other) => {
-            mem::replace(cord, other).release(pool, w);
-            Ok(())
-        }
-        Err(error) => Err(error),
-    }
-}
-
-/// Adds a cord of so many `s`, which is released then.
-fn join<P: Naming>(
-    alloc: Global,
-    pool: &Pool<P, Boxes>,
-    w: &mut Worker<P>,
-    cord: &mut Cord<P>,
-    size: usize,
-    in_front: bool,
-) -> Result<(), CordError>
-    requires room { length w.old.holds ≤ 96 }
-    ensures same { SameHolds w.old.holds w.new.holds }
-{
-    let Ok(bytes) = vec![in alloc; b's'; size] else {
-        return Err(CordError::Memory);
-    };
-    let mut other = match Cord::from_bytes(alloc, pool, w, bytes.as_slice()) {
-        Ok(other) => other,
-        Err(error) => return Err(error),
-    };
-    let answer = if in_front {
-        cord.prepend_cord(alloc, pool, w, &mut other)
-    } else {
-        cord.append_cord(alloc, pool, w, &mut other)
-    };
-    other.release(pool, w);
-    answer
-}
-
-fn taken<P: Naming>(
-    alloc: Global,
-    pool: &Pool<P, Boxes>,
-    w: &mut Worker<P>,
-    cord: &mut Cord<P>,
-    step: Step,
-) -> Outcome
-    requires room { length w.old.holds ≤ 96 }
-    ensures same { SameHolds w.old.holds w.new.holds }
-{
-    let answer = match step {
-        Step::Append(bytes) => cord.append_bytes(alloc, pool, w, bytes),
-        Step::CutFront(n) => cord.cut_front(alloc, pool, w, n),
-        Step::CutBack(n) => cord.cut_back(alloc, pool, w, n),
-        Step::SetSum(value) => cord.set_sum(alloc, pool, w, value),
-        Step::Join(size) => join(alloc, pool, w, cord, size, false),
-        Step::JoinFront(size) => join(alloc, pool, w, cord, size, true),
-        Step::Double => cord.double(alloc, pool, w),
-        Step::Range(pos, n) => {
-            let made = cord.sub(alloc, pool, w, pos, n);
-            replace(pool, w, cord, made)
-        }
-        Step::Copy => {
-            let made = cord.copy(pool, w);
-            replace(pool, w, cord, made)
-        }
-    };
-    (answer, seen_of(cord))
-}
 
 /// What three steps on a cord of these bytes come to. The cord is released then.
 fn all_taken<P: Naming>(
@@ -336,5 +217,73 @@ fn ranges_cuts_joins_and_sums_leave_what_they_say(rt: HostRuntime) {
             Some((Ok(seen), 0)),
             "{steps:?} in a pool of {numbers}"
         );
+    }
+}
+
+/// The answer, the length, whether there is a tree, and the sum.
+fn told(outcome: Outcome) -> (Result<(), CordError>, u64, bool, Option<u32>) {
+    let (answer, (size, tree, sum, _, _)) = outcome;
+    (answer, size, tree, sum)
+}
+
+/// What is told of a cord of so many bytes that gets a sum, after that, after the step, and of a copy of it then.
+fn summed_and_changed<P: Naming>(
+    alloc: Global,
+    opened: Opened<Boxes>,
+    size: usize,
+    step: Step,
+) -> Option<[(Result<(), CordError>, u64, bool, Option<u32>); 3]>
+    requires table { opened_table opened ≡ P.table }
+    requires numbers { opened_numbers opened ≡ P.size }
+    requires passes { opened_passes opened ≡ P.limit }
+    requires boxes { opened_boxes opened ≡ P.boxes }
+    requires workers { (opened_workers opened ≡ P.workers) × (P.workers ≡ 1) }
+{
+    let (bytes, _) = TWENTY.split_at(size.min(TWENTY.len()));
+    let steps = [Step::SetSum(7), step, Step::Copy];
+    let (outcomes, in_use) = outcomes_of::<P>(alloc, opened, bytes, steps)?;
+    let Ok(outcomes) = outcomes else {
+        return None;
+    };
+    let [first, second, third] = outcomes;
+    if in_use > 0 {
+        return None;
+    }
+    Some([told(first), told(second), told(third)])
+}
+
+#[test]
+fn a_sum_on_few_bytes_stays_exactly_where_no_byte_comes_or_goes(rt: HostRuntime) {
+    let alloc = rt.alloc();
+    for (step, sizes, sum) in [
+        (Step::Append(b""), [1u64, 15, 16], Some(7u32)),
+        (Step::Append(b"x"), [2, 16, 17], None),
+        (Step::Prepend(b""), [1, 15, 16], Some(7)),
+        (Step::Prepend(b"x"), [2, 16, 17], None),
+        (Step::CutFront(0), [1, 15, 16], Some(7)),
+        (Step::CutFront(1), [0, 14, 15], None),
+        (Step::CutBack(0), [1, 15, 16], Some(7)),
+        (Step::CutBack(1), [0, 14, 15], None),
+        (Step::Range(0, 99), [1, 15, 16], None),
+        (Step::Copy, [1, 15, 16], Some(7)),
+        (Step::SetSum(8), [1, 15, 16], Some(8)),
+        (Step::Join(0), [1, 15, 16], Some(7)),
+        (Step::Join(1), [2, 16, 17], None),
+        (Step::Join(600), [601, 615, 616], None),
+        (Step::JoinFront(0), [1, 15, 16], Some(7)),
+        (Step::JoinFront(1), [2, 16, 17], None),
+        (Step::JoinFront(600), [601, 615, 616], None),
+        (Step::Double, [2, 30, 32], None),
+    ] {
+        for (from, after) in [(1usize, sizes[0]), (15, sizes[1]), (16, sizes[2])] {
+            let Ok(opened) = Opened::start(alloc, 8, 2, 1, Vec::new(alloc)) else {
+                assert!(&rt; false, "memory");
+                return;
+            };
+            let seen = summed_and_changed::<Brand>(alloc, opened, from, step);
+            let changed = (Ok(()), after, after > 15 || sum.is_some(), sum);
+            let wanted = [(Ok(()), from as u64, true, Some(7)), changed, changed];
+            assert_eq!(rt; seen, Some(wanted), "{step:?} on {from} bytes");
+        }
     }
 }

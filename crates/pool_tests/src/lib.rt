@@ -13,14 +13,24 @@ mod flats;
 #[cfg(test)]
 mod marks;
 #[cfg(test)]
+mod queries;
+#[cfg(test)]
+mod ranges;
+#[cfg(test)]
 mod refusals;
 #[cfg(test)]
 mod releasers;
 #[cfg(test)]
 mod rules;
 #[cfg(test)]
+mod shapes;
+#[cfg(test)]
 mod slots;
 #[cfg(test)]
+mod steps;
+#[cfg(test)]
 mod threads;
+#[cfg(test)]
+mod tight;
 #[cfg(test)]
 mod trees;

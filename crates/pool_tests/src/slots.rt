@@ -12,7 +12,8 @@ use std::marker::Brand;
 
 type Boxes = LogReleaser;
 
-fn boxes(alloc: Global, count: u32) -> Option<Vec<Boxes>>
+/// So many boxes that were never called.
+pub(crate) fn boxes(alloc: Global, count: u32) -> Option<Vec<Boxes>>
     ensures count { IfSome result (λ v. length v.items ≡ count) }
     ensures calls { IfSome result (λ v. All (λ b. log_calls b < 2 ^ 64 - 1) v.items) }
 {

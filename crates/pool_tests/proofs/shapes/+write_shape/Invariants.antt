@@ -1,0 +1,5 @@
+-- Each turn of the recursion looks at one level fewer.
+use Rattle.pool_tests.proofs.shapes.+write_shape.Given as goal
+
+abbrev pub decreases-write_shape : goal.decreases-write_shape
+decreases-write_shape l = l.levels
