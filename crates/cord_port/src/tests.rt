@@ -1,7 +1,9 @@
 ghost use Rattle.std.specs.Prelude.{◌≡◌, ◌≤◌, IfOk};
 
 use super::*;
+use std::alloc::Global;
 use std::io::{self, Cursor, ErrorKind, Read, Write};
+use std::marker::Brand;
 use std::test::Fail;
 
 #[test]
@@ -173,6 +175,115 @@ fn interrupted_calls_are_made_again_and_no_others(rt: HostRuntime) -> Result<(),
             let mut buf = [0u8; 4];
             assert_eq!(rt; source.read(&mut buf).ok(), count);
             assert_eq!(rt; sink.write(b"abcd").ok(), count);
+        }
+    }
+    Ok(())
+}
+
+// What a sink holds that was given `onetwothree` through a buffer, and how often the buffer was emptied with success in these attempts.
+fn held_below(
+    alloc: Global,
+    below: MemorySink,
+    attempts: usize,
+) -> Result<(usize, MemorySink), MemorySink> {
+    let made: Result<BufferedSink<MemorySink, Brand>, MemorySink> = BufferedSink::new(alloc, below);
+    let mut sink = made?;
+    let mut emptied = 0;
+    for piece in [b"one".as_slice(), b"two".as_slice(), b"three".as_slice()] {
+        if write_all(&mut sink, piece).is_err() {
+            return Err(sink.into_below());
+        }
+    }
+    for _ in 0..attempts {
+        if sink.flush().is_ok() {
+            emptied += 1;
+        }
+    }
+    Ok((emptied, sink.into_below()))
+}
+
+#[test]
+fn buffer_loses_nothing_where_the_sink_takes_little_or_fails(rt: HostRuntime) -> Result<(), Fail> {
+    let text = b"onetwothree".as_slice();
+    for most in [1, 3, 11, 64] {
+        let calls = text.len().div_ceil(most);
+        for failing in 1..calls + 2 {
+            for attempts in [1, 2] {
+                let fails = vec![in rt.alloc(); failing as u32]?;
+                let below = MemorySink::new(rt.alloc(), 11, most, fails)?;
+                // Behind the failing call the bytes that are left are handed on.
+                let (emptied, count) = if failing > calls {
+                    (attempts, text.len())
+                } else if attempts == 2 {
+                    (1, text.len())
+                } else {
+                    (0, most * (failing - 1))
+                };
+                match held_below(rt.alloc(), below, attempts) {
+                    Ok((times, below)) => {
+                        assert_eq!(rt; times, emptied);
+                        assert_eq!(rt; below.bytes(), &text[..count]);
+                    }
+                    Err(_back) => assert!(rt; false),
+                }
+            }
+        }
+    }
+    for room in [0, 5] {
+        let below = MemorySink::new(rt.alloc(), room, 64, Vec::new(rt.alloc()))?;
+        match held_below(rt.alloc(), below, 2) {
+            Ok((times, below)) => {
+                assert_eq!(rt; times, 0);
+                assert_eq!(rt; below.bytes(), &text[..room]);
+            }
+            Err(_back) => assert!(rt; false),
+        }
+    }
+    Ok(())
+}
+
+// A sink that notes how long each piece was that it was handed.
+#[derive(Drop)]
+struct PieceSink {
+    pieces: Vec<usize>,
+}
+
+impl Sink for PieceSink {
+    ghost use Rattle.std.specs.Prelude.{None};
+
+    ghost held = { λ _. None };
+
+    ghost faults = { λ _. 0 };
+
+    fn write(&mut self, bytes: &[u8]) -> Result<usize, Failed> {
+        let _ = self.pieces.push(bytes.len());
+        Ok(bytes.len())
+    }
+}
+
+#[test]
+fn buffer_hands_on_65536_bytes_in_one_write(rt: HostRuntime) -> Result<(), Fail> {
+    for (lines, pieces) in [
+        (1, [7usize].as_slice()),
+        (16384, [65536usize, 49152].as_slice()),
+        (28087, [65536usize, 65536, 65536, 1].as_slice()),
+    ] {
+        let below = PieceSink {
+            pieces: Vec::new(rt.alloc()),
+        };
+        let made: Result<BufferedSink<PieceSink, Brand>, PieceSink> = BufferedSink::new(
+            rt.alloc(),
+            below,
+        );
+        match made {
+            Ok(mut sink) => {
+                for _ in 0..lines {
+                    assert!(rt; write_all(&mut sink, b"a line\n").is_ok());
+                }
+                assert!(rt; sink.flush().is_ok());
+                assert_eq!(rt; sink.into_below().pieces.as_slice(), pieces);
+            }
+            Err(_back) => assert!(rt; false),
         }
     }
     Ok(())

@@ -1,5 +1,6 @@
 pub mod LineLaws
 pub mod ScriptLines
+pub mod WordedLaws
 pub mod SettingLaws
 pub mod Runs
 pub mod Holds

@@ -36,7 +36,7 @@ use Rattle.script_words.proofs.WordLaws.{free_all, name_byte_free, name_byte_sho
 
 -- ---- the first word
 
-known_found : (o : FirstWord) (r : Option (List ℕ)) (x : Verb × Option (List ℕ)) → known o r ≡ Ok x → (o ≡ firsts.Built x.0) × (r ≡ x.1)
+pub known_found : (o : FirstWord) (r : Option (List ℕ)) (x : Verb × Option (List ℕ)) → known o r ≡ Ok x → (o ≡ firsts.Built x.0) × (r ≡ x.1)
 known_found firsts.Unknown r x e = absurd cc
 known_found firsts.Unbuilt r x e = absurd cc
 known_found (firsts.Built v) r x e =

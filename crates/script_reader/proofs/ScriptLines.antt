@@ -87,7 +87,7 @@ said_found p line q e =
       ap may f.0 ∙ ap (λ (t : Bool). cond t (entered p c.0) (Err causes.Misplaced)) b.0 ∙ c.2,
     )
 
-said_again : (p : Progress) (line : List ℕ) (item : Item) → SpellsItem line item → said p line ≡ accepted p item
+pub said_again : (p : Progress) (line : List ℕ) (item : Item) → SpellsItem line item → said p line ≡ accepted p item
 unfolding said
 said_again p line item h = rw (spelled_verb line item h, item_again item h.rest h.says) refl
 

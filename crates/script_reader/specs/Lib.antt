@@ -1,5 +1,6 @@
 pub mod Lines
 pub mod Scripts
+pub mod Worded
 pub mod Spelling
 pub mod ScriptSpelling
 pub mod ScriptReading

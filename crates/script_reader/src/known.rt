@@ -4,13 +4,14 @@ ghost use Rattle.script_reader.specs.Feeds.{line_known, number_in, nothing_known
 ghost use Rattle.script_reader.specs.Goes.{Goes};
 ghost use Rattle.script_reader.specs.ScriptReading.{Reads, refused_at};
 ghost use Rattle.script_reader.specs.Scripts.{is_ignored, said, step, script_of, is_header_line};
+ghost use Rattle.script_reader.specs.Worded.{worded};
 
 use crate::fault::{ReadRefused, ScriptError};
 use crate::lines::read_item;
 use crate::progress::{Progress, Settings, enter, may_stand};
 use crate::verbs::read_verb;
 use plain_cord::{Items, Script};
-use script_words::{Cause, Refused};
+use script_words::{Cause, Refused, all_shown};
 use std::alloc::Global;
 
 /// Whether the line is neither empty nor a comment.
@@ -23,10 +24,10 @@ fn is_said(line: &[u8]) -> bool
     }
 }
 
-/// A line that says something.
-#[tactic(auto, unfolding(crate::specs::Scripts::said))]
-fn read_said(alloc: Global, progress: &mut Progress, line: &[u8]) -> Result<(), Refused>
-    ensures { Goes result progress.new (said progress.old line.now) }
+/// Adds what the words of a line say.
+#[tactic(auto, unfolding(crate::specs::Worded::worded))]
+fn read_words(alloc: Global, progress: &mut Progress, line: &[u8]) -> Result<(), Refused>
+    ensures { Goes result progress.new (worded progress.old line.now) }
 {
     let (verb, rest) = read_verb(line)?;
     if !may_stand(progress, verb) {
@@ -34,6 +35,24 @@ fn read_said(alloc: Global, progress: &mut Progress, line: &[u8]) -> Result<(), 
     }
     let item = read_item(alloc, verb, rest)?;
     enter(alloc, progress, item)
+}
+
+/// A line that says something. One that can be read has no byte that a line may not have, so its bytes are tested only where it can't be.
+#[tactic(auto, using(crate::proofs::WordedLaws::worded_is_said, crate::proofs::WordedLaws::fault_is_said, crate::proofs::WordedLaws::byte_is_said))]
+fn read_said(alloc: Global, progress: &mut Progress, line: &[u8]) -> Result<(), Refused>
+    ensures { Goes result progress.new (said progress.old line.now) }
+{
+    match read_words(alloc, progress, line) {
+        Ok(()) => Ok(()),
+        Err(Refused::Memory) => Err(Refused::Memory),
+        Err(Refused::Fault(cause)) => {
+            if all_shown(line) {
+                Err(Refused::Fault(cause))
+            } else {
+                Err(Refused::Fault(Cause::Byte))
+            }
+        }
+    }
 }
 
 /// One line more.

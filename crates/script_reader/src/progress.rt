@@ -1,6 +1,7 @@
 //! What lines say, and what was read so far.
-ghost use Rattle.std.specs.Prelude.{◌≡◌, Ok};
+ghost use Rattle.std.specs.Prelude.{◌≡◌, ◌++◌, ◌∷◌, [], Ok, Err, OnOk, OnErr};
 ghost use Rattle.std.specs.List.{list_any};
+ghost use Rattle.script_words.specs.declared.fault.Refused.TheVariants.{Memory};
 ghost use Rattle.script_words.specs.Reading.{Gives};
 ghost use Rattle.script_reader.specs.declared.progress.Item.TheVariants as items;
 ghost use Rattle.script_reader.specs.Goes.{Goes};
@@ -121,21 +122,32 @@ fn begin_session(alloc: Global, progress: &mut Progress, name: Items<u8>) -> Res
     Ok(())
 }
 
-/// Adds a command to the open session, if there are fewer than 16,384 in all.
+/// Adds a command to a session.
+fn add_to(session: &mut Session, command: Command) -> Result<(), Refused>
+    ensures ok { OnOk result (session.new ≡ record session.old { commands = session.old.commands ++ command ∷ [] }) }
+    ensures err { OnErr result (result ≡ Err Memory) }
+{
+    session.commands.push(command)?;
+    Ok(())
+}
+
+/// Adds a command to the open session, in place, if there are fewer than 16,384 in all.
 #[tactic(auto, unfolding(crate::specs::Scripts::entered))]
 fn add_command(progress: &mut Progress, command: Command) -> Result<(), Refused>
     ensures { Goes result progress.new (entered progress.old (items.Do command)) }
 {
-    let Some(mut session) = progress.current.take() else {
-        return Err(Refused::Fault(Cause::Misplaced));
-    };
-    if progress.commands >= 16384 {
-        return Err(Refused::Fault(Cause::Many));
+    let count = progress.commands;
+    match &mut progress.current {
+        None => Err(Refused::Fault(Cause::Misplaced)),
+        Some(session) => {
+            if count >= 16384 {
+                return Err(Refused::Fault(Cause::Many));
+            }
+            add_to(session, command)?;
+            progress.commands = count + 1;
+            Ok(())
+        }
     }
-    session.commands.push(command)?;
-    progress.current = Some(session);
-    progress.commands += 1;
-    Ok(())
 }
 
 /// Ends the open session.

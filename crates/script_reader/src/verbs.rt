@@ -2,19 +2,16 @@
 ghost use Rattle.std.specs.Prelude.{Ok};
 ghost use Rattle.std.specs.Option.{option_map};
 ghost use Rattle.script_words.specs.Reading.{Gives, NeedsNoMemory};
-ghost use Rattle.script_reader.specs.Lines.{verb_at};
+ghost use Rattle.script_reader.specs.Worded.{begun_at};
 
-use script_words::{Cause, FirstWord, Refused, Verb, all_shown, find_verb, first_word};
+use script_words::{Cause, FirstWord, Refused, Verb, find_verb, first_word};
 
 /// The first word of a line, and what stands behind its space.
-#[tactic(auto, unfolding(crate::specs::Lines::verb_at))]
+#[tactic(auto, unfolding(crate::specs::Worded::begun_at))]
 pub fn read_verb(line: &[u8]) -> Result<(Verb, Option<&[u8]>), Refused>
-    ensures value { Gives (λ x. (x.0, option_map (λ rest. rest.now) x.1)) result (verb_at line.now) }
+    ensures value { Gives (λ x. (x.0, option_map (λ rest. rest.now) x.1)) result (begun_at line.now) }
     ensures free { NeedsNoMemory result }
 {
-    if !all_shown(line) {
-        return Err(Refused::Fault(Cause::Byte));
-    }
     let (word, rest) = first_word(line);
     match find_verb(word) {
         FirstWord::Unknown => Err(Refused::Fault(Cause::Command)),

@@ -6,3 +6,4 @@ pub mod NumberLaws
 pub mod TextLaws
 pub mod WordLaws
 pub mod TableLaws
+pub mod SlotLaws

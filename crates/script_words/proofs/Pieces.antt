@@ -1,9 +1,12 @@
 -- Reading a text in parts.
-use Rattle.std.proofs.Common.{◌≡◌, ℕ, ◌-◌, Bool, true, false, cond, eqb, List, [], ◌∷◌, ◌++◌, Result, Ok, Err, refl, sym, ap, ◌∙◌, take, drop, length, append_assoc}
+use Rattle.std.proofs.Common.{◌≡◌, ℕ, ◌+◌, ◌-◌, ◌≤◌, Bool, true, false, cond, eqb, List, [], ◌∷◌, ◌++◌, Result, Ok, Err, refl, sym, ap, ◌∙◌, take, drop, length, append_assoc, arith}
 use Rattle.std.specs.Prelude.{◌&&◌, not}
 use Rattle.std.specs.List.{list_all}
-use Rattle.std.proofs.lemmas.Bool.{and_parts}
-use Rattle.std.proofs.lemmas.List.{take_rest, take-append-drop}
+use Rattle.std.proofs.lemmas.Bool.{and_parts, and_from}
+use Rattle.std.proofs.lemmas.List.{take_rest, take-append-drop, length-take}
+use Rattle.std.proofs.lemmas.List.Folds.{list_all-append}
+use Rattle.std.proofs.Math.Nat.{min-eq_left}
+use Rattle.std.proofs.Math.Seq.{take-append-add}
 use Rattle.script_words.specs.declared.fault.Cause.{Cause}
 use Rattle.script_words.specs.declared.texts.Mode.TheVariants.{Plain, Escape}
 use Rattle.script_words.specs.declared.texts.Scan.{Scan}
@@ -42,6 +45,18 @@ plain_front (b ∷ front) rest h =
     let p = and_parts (stands_for_itself b) (list_all stands_for_itself front) h in
     ap (λ (s : Scan). follow s (λ m. piece_at m (front ++ rest)) (front ++ rest)) (itself_is_read b p.0)
     ∙ ap (with_byte b) (plain_front front rest p.1) ∙ behind_one b front (piece_at Plain rest)
+
+-- bytes behind those in front
+pub front_grows : (bytes : List ℕ) (run next : ℕ) → run ≤ length bytes → run ≤ next → list_all stands_for_itself (take run bytes) ≡ true
+    → list_all stands_for_itself (take (next - run) (drop run bytes)) ≡ true → list_all stands_for_itself (take next bytes) ≡ true
+front_grows bytes run next within more h k =
+    let front = take run bytes in
+    let back = drop run bytes in
+    let long : length front ≡ run = length-take run bytes ∙ min-eq_left within in
+    let parts : take next bytes ≡ front ++ take (next - run) back =
+    ap (λ (n : ℕ). take n bytes) (sym (omega (arith, long))) ∙ ap (take (length front + (next - run))) (sym (take-append-drop run bytes)) ∙ take-append-add front back (next - run) in
+    ap (list_all stands_for_itself) parts ∙ list_all-append stands_for_itself front (take (next - run) back)
+    ∙ and_from (list_all stands_for_itself front) (list_all stands_for_itself (take (next - run) back)) h k
 
 pub parts_are_read : (bytes : List ℕ) (run : ℕ) → list_all stands_for_itself (take run bytes) ≡ true
     → with_front (take run bytes) (piece_at Plain (take (length bytes - run) (drop run bytes))) ≡ piece_at Plain bytes

@@ -1,12 +1,10 @@
--- What a search for a byte tells of a cut, and of the bytes before it.
-use Rattle.std.proofs.Common.{◌≡◌, ℕ, zero, suc, ◌+◌, ◌-◌, ◌<◌, Bool, true, false, eqb, List, [], ◌∷◌, length, Option, Some, None, refl, sym, ap, ◌∙◌, take, drop, arith}
-use Rattle.std.specs.Prelude.{◌&&◌, ◌||◌, not, slice_index, unwrap_or}
-use Rattle.std.specs.List.{list_all}
-use Rattle.std.proofs.lemmas.Bool.{and_parts, and_from, or_parts, false_from_ne_true}
+-- What a search for a byte tells of a cut.
+use Rattle.std.proofs.Common.{◌≡◌, ℕ, zero, suc, ◌+◌, ◌-◌, ◌<◌, true, false, eqb, List, [], ◌∷◌, length, Option, Some, None, refl, sym, ap, ◌∙◌, take, drop, arith}
+use Rattle.std.specs.Prelude.{slice_index}
+use Rattle.std.proofs.lemmas.Bool.{false_from_ne_true}
 use Rattle.std.proofs.lemmas.List.{take_rest}
-use Rattle.memchr.specs.Find.{IsFirstByte, is_byte, is_byte2}
-use Rattle.script_words.specs.Words.{cut, is_shown}
-use Rattle.script_words.specs.Texts.{stands_for_itself}
+use Rattle.memchr.specs.Find.{IsFirstByte, is_byte}
+use Rattle.script_words.specs.Words.{cut}
 
 -- ---- a cut is at the first separator
 
@@ -34,21 +32,3 @@ cut_first c bs k h =
     let next : k + 1 ≡ suc k = omega arith in
     ap (λ (l : List ℕ). let p : Cut = (take k bs, Some l) in p) (take_rest bs (k + 1) ∙ ap (λ (n : ℕ). drop n bs) next)
     ∙ sym (cut_at c bs k h.0.high (λ i lt. h.0.before i (omega arith) lt) h.1)
-
--- ---- bytes that stand for themselves
-
-one_more : (shown quote slash : Bool) → shown ≡ true → (quote || slash) ≡ false → (shown && not quote && not slash) ≡ true
-one_more shown quote slash is other = let p = or_parts quote slash other in rw (is, p.0, p.1) refl
-
-plain_before : (bs : List ℕ) (k : ℕ) → ((i : ℕ) → i < k → i < length bs → ¬ (is_byte2 34 92 (slice_index bs i) ≡ true)) → list_all is_shown (take k bs) ≡ true → list_all stands_for_itself (take k bs) ≡ true
-plain_before bs zero none shown = refl
-plain_before [] (suc k) none shown = refl
-plain_before (b ∷ bs) (suc k) none shown =
-    let p = and_parts (is_shown b) (list_all is_shown (take k bs)) shown in
-    and_from (stands_for_itself b) (list_all stands_for_itself (take k bs))
-    (one_more (is_shown b) (eqb b 34) (eqb b 92) p.0 (false_from_ne_true (eqb b 34 || eqb b 92) (none 0 (omega arith) (omega arith))))
-    (plain_before bs k (λ i lt le. none (suc i) (omega arith) (omega arith)) p.1)
-
-pub plain_until : (bs : List ℕ) (r : Option ℕ) (run : ℕ) → IsFirstByte (is_byte2 34 92) bs r → run ≡ unwrap_or r (length bs) → list_all is_shown (take run bs) ≡ true → list_all stands_for_itself (take run bs) ≡ true
-plain_until bs None run h is shown = plain_before bs run (λ i lt le. h i (omega arith) le) shown
-plain_until bs (Some k) run h is shown = plain_before bs run (λ i lt le. h.0.before i (omega arith) (omega (arith, is))) shown

@@ -5,4 +5,5 @@ pub mod Numbers
 pub mod Texts
 pub mod Spelling
 pub mod Table
+pub mod Slots
 pub mod Forms

@@ -7,8 +7,6 @@ ghost use Rattle.script_words.specs.Texts.{hex_value, stands_for_itself, scan, p
 
 use crate::fault::{Cause, Refused};
 use crate::numbers::decimal;
-use crate::words::all_shown;
-use memchr::memchr2;
 use plain_cord::{Items, Text};
 use std::alloc::Global;
 
@@ -77,13 +75,46 @@ fn scan_byte(mode: Mode, c: u8) -> Scan
     }
 }
 
-/// So many bytes in front that stand for themselves: those before the first quote or backslash, or none where one of them isn't shown.
+/// Whether the byte is its own spelling.
+fn is_plain(c: u8) -> bool
+    ensures { result ≡ stands_for_itself c }
+{
+    (32 <= c) & (c <= 126) & (c != 34) & (c != 92)
+}
+
+/// Whether each byte is its own spelling. It goes on behind one that isn't, so that many bytes can be tested at once.
+fn all_plain(bytes: &[u8]) -> bool
+    ensures { result ≡ list_all stands_for_itself bytes.now }
+{
+    let mut all = true;
+    for c in bytes {
+        all = all & is_plain(*c);
+    }
+    all
+}
+
+/// So many bytes in front that stand for themselves: some blocks of 64, tested at once.
+fn plain_blocks(bytes: &[u8]) -> usize
+    ensures within { result ≤ length bytes.now }
+    ensures plain { list_all stands_for_itself (take result bytes.now) ≡ true }
+{
+    let mut run = 0;
+    while bytes.len() - run >= 64 && all_plain(&bytes[run..run + 64]) {
+        run += 64;
+    }
+    run
+}
+
+/// All bytes in front that stand for themselves.
 fn plain_run(bytes: &[u8]) -> usize
     ensures within { result ≤ length bytes.now }
     ensures plain { list_all stands_for_itself (take result bytes.now) ≡ true }
 {
-    let run = memchr2(b'"', b'\\', bytes).unwrap_or(bytes.len());
-    if all_shown(&bytes[..run]) { run } else { 0 }
+    let mut run = plain_blocks(bytes);
+    while run < bytes.len() && is_plain(bytes[run]) {
+        run += 1;
+    }
+    run
 }
 
 /// The bytes up to the closing quote, behind those in front, and what stands behind it.
