@@ -6,11 +6,11 @@ ghost use Rattle.cord_query.specs.Readers.{SameText};
 use chunk_reader::Chunks;
 use memchr::memmem::Finder;
 
-/// The most bytes of a needle for which a chunk's border is copied.
-pub(crate) const MOST_COPIED: usize = 256;
+/// Room for what lies around a border: twice as much as a needle of at most 256 bytes has.
+pub(crate) const SMALL_ROOM: usize = 512;
 
-/// Room for what lies around a border.
-const ROOM: usize = 2 * MOST_COPIED;
+/// The same for a needle of at most 4096 bytes.
+pub(crate) const LARGE_ROOM: usize = 8192;
 
 /// Copies what stands from a place on, at most so many bytes. How many these are.
 fn copy_from(chunks: &mut Chunks<'_>, place: u64, most: usize, room: &mut [u8]) -> usize
@@ -43,8 +43,9 @@ pub(crate) fn over_border(
     chunk: &[u8],
     from: usize,
     needle: &[u8],
+    room: &mut [u8],
 ) -> Option<u64>
-    requires few { length needle.now ≤ 256 }
+    requires few { length needle.now + length needle.now ≤ length room.old }
     requires behind { length chunk.now + 1 ≤ from + length needle.now }
     requires within { from ≤ length chunk.now }
     requires some { 0 < length needle.now }
@@ -56,9 +57,8 @@ pub(crate) fn over_border(
 {
     let place = start + from as u64;
     let most = chunk.len() - from + (needle.len() - 1);
-    let mut window = [0u8; ROOM];
-    let filled = copy_from(ahead, place, most, &mut window);
-    match finder.find(&window[..filled]) {
+    let filled = copy_from(ahead, place, most, room);
+    match finder.find(&room[..filled]) {
         Some(at) => Some(place + at as u64),
         None => None,
     }

@@ -5,7 +5,7 @@ ghost use Rattle.plain_cord.specs.Texts.{place_of};
 ghost use Rattle.plain_cord.specs.Places.{IsFirstPlace};
 ghost use Rattle.cord_query.specs.Readers.{SameText};
 
-use crate::border::{MOST_COPIED, over_border};
+use crate::border::{LARGE_ROOM, SMALL_ROOM, over_border};
 use crate::reading::{next_chunk, stands_at};
 use chunk_reader::Chunks;
 use cord_value::Cord;
@@ -22,13 +22,27 @@ pub fn find<P: Naming>(cord: &Cord<P>, needle: &[u8]) -> Option<u64>
     if needle.is_empty() {
         return Some(0);
     }
+    let small = needle.len() <= SMALL_ROOM / 2;
+    if small {
+        find_with(cord, needle, &mut [0; SMALL_ROOM])
+    } else {
+        find_with(cord, needle, &mut [0; LARGE_ROOM])
+    }
+}
+
+/// The same of a needle that isn't empty, with this room for what lies around borders.
+fn find_with<P: Naming>(cord: &Cord<P>, needle: &[u8], room: &mut [u8]) -> Option<u64>
+    requires some { 0 < length needle.now }
+    ensures relation { IsFirstPlace cord.now.bytes needle.now result }
+    ensures value { result ≡ place_of cord.now.bytes needle.now }
+{
     let size = cord.len();
     let finder = Finder::new(needle);
     let mut ahead = cord.chunks();
     let mut rest = cord.chunks();
     let mut start = 0;
     while let Some(chunk) = next_chunk(&mut rest) {
-        if let Some(place) = in_chunk(&finder, &mut ahead, size, start, chunk, needle) {
+        if let Some(place) = in_chunk(&finder, &mut ahead, size, start, chunk, needle, room) {
             return Some(place);
         }
         start += chunk.len() as u64;
@@ -44,6 +58,7 @@ fn in_chunk(
     start: u64,
     chunk: &[u8],
     needle: &[u8],
+    room: &mut [u8],
 ) -> Option<u64>
     requires size { size ≡ length ahead.old.bytes }
     requires some { 0 < length needle.now }
@@ -57,7 +72,7 @@ fn in_chunk(
     if let Some(at) = finder.find(chunk) {
         return Some(start + at as u64);
     }
-    behind(finder, ahead, size, start, chunk, needle)
+    behind(finder, ahead, size, start, chunk, needle, room)
 }
 
 /// The least place in the chunk from which the needle goes on behind the chunk. Where its first byte stands at none, no byte is copied.
@@ -68,6 +83,7 @@ fn behind(
     start: u64,
     chunk: &[u8],
     needle: &[u8],
+    room: &mut [u8],
 ) -> Option<u64>
     requires size { size ≡ length ahead.old.bytes }
     requires some { 0 < length needle.now }
@@ -82,8 +98,9 @@ fn behind(
     let Some(next) = memchr(needle[0], &chunk[from..]) else {
         return None;
     };
-    if needle.len() <= MOST_COPIED {
-        over_border(finder, ahead, start, chunk, from + next, needle)
+    let fits = needle.len() <= room.len() / 2;
+    if fits {
+        over_border(finder, ahead, start, chunk, from + next, needle, room)
     } else {
         across(ahead, size, start, chunk, needle)
     }

@@ -16,8 +16,8 @@ returns-in_default-clause-first c =
     let is = c.saturating_sub-from.ensures in
     λ k low high. passed-by hay needle chunk c.args.start c.requires.chunk c.requires.some from n (omega (arith, is, c.requires.some)) (λ j least lt. c.in_default.ensures j least (omega (arith, lt, long))) k (omega (arith, low, is)) (omega (arith, high, is, c.requires.some))
 
-pub returns-then-needle-le-MOST_COPIED-clause-first : goal.returns-then-needle-le-MOST_COPIED-clause-first
-returns-then-needle-le-MOST_COPIED-clause-first c =
+pub returns-then-fits-clause-first : goal.returns-then-fits-clause-first
+returns-then-fits-clause-first c =
     let hay = c.args.ahead.now.bytes in
     let needle = c.args.needle.now in
     let chunk = c.args.chunk.now in

@@ -2,7 +2,7 @@
 use Rattle.std.proofs.Common.{◌≡◌, ◌≤◌, length}
 use Rattle.memchr.specs.Find.{OccursAt, Nowhere}
 use Rattle.chunk_reader.specs.Readings.{left}
-use Rattle.cord_query.proofs.searching.find.Given as goal
+use Rattle.cord_query.proofs.searching.find_with.Given as goal
 
 abbrev pub invariant-loop-chunk : goal.invariant-loop-chunk
 invariant-loop-chunk g l = record {
