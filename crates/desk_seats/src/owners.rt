@@ -1,5 +1,5 @@
 //! One that owns a record.
-ghost use Rattle.std.specs.Prelude.{◌≡◌, ◌≤◌, length};
+ghost use Rattle.std.specs.Prelude.{◌≤◌, length, IfSome};
 ghost use Rattle.pool_rule.specs.Trades.{SameHolds};
 ghost use Rattle.cordz_desk.specs.Shares.{IsShare};
 ghost use Rattle.cordz_desk.specs.Tickets.{IsAtRest};
@@ -21,6 +21,22 @@ pub struct Owned<P: Naming, D: DeskNaming> {
 }
 
 impl<P: Naming, D: DeskNaming> Owned<P, D> {
+    /// Publishes a new share. The old one comes back, if there was one.
+    pub fn exchange<R: Wait>(
+        &mut self,
+        rt: &R,
+        desk: &CordzDesk<P, D>,
+        share: Share<P>,
+    ) -> (Note, Option<Share<P>>)
+        requires share { IsShare share }
+        ensures old { IfSome result.1 (λ x. IsShare x) }
+    {
+        let mut change = desk.begin(rt, &mut self.ticket);
+        let old = change.share.take();
+        let note = desk.publish(&mut self.ticket, change, share, 0);
+        (note, old)
+    }
+
     /// Publishes a new share, and the old one is given back.
     pub fn publish<R: Wait>(
         &mut self,
@@ -34,9 +50,7 @@ impl<P: Naming, D: DeskNaming> Owned<P, D> {
         requires room { length w.old.holds ≤ 96 }
         ensures same { SameHolds w.old.holds w.new.holds }
     {
-        let mut change = desk.begin(rt, &mut self.ticket);
-        let old = change.share.take();
-        let note = desk.publish(&mut self.ticket, change, share, 0);
+        let (note, old) = self.exchange(rt, desk, share);
         if let Some(old) = old {
             give_back(pool, w, old);
         }

@@ -109,6 +109,8 @@ impl<P: Naming, D: DeskNaming> Seat<P, D> {
     pub fn snap<R: Wait>(&mut self, rt: &R, desk: &CordzDesk<P, D>)
         requires few { self.old.made < 2 ^ 33 }
         requires none { self.old.walks ≡ false }
+        ensures walking { self.new.walks ≡ true }
+        ensures made { self.new.made ≡ self.old.made + 1 }
     {
         self.made += 1;
         desk.snapshot(rt, &mut self.pass);
