@@ -1,5 +1,6 @@
 //! Copies that a peek made.
 ghost use Rattle.std.specs.Prelude.{◌≡◌, ◌+◌, ◌≤◌, ◌^◌, [], length};
+ghost use Rattle.pool_rule.specs.Trades.{SameHolds};
 ghost use Rattle.record_rule.specs.Log.{made_of};
 ghost use Rattle.cordz_desk.specs.Tokens.{token_of};
 ghost use Rattle.cord_value.specs.Workers.{Keeps};
@@ -39,6 +40,7 @@ pub fn adopt<R: Wait, P: Naming, D: DeskNaming, B: Releaser>(
     ensures cord { cord_in result.0 ≡ copied.cord }
     ensures tracked { IsTrackedIf copied.share (ticket_in result.0) result.1 (token_of hand.old.pass) (token_of hand.new.pass) }
     ensures worker { Keeps P.limit [] 0 (one_if copied.spare + one_if copied.spare_sample + ended_by result.1) hand.old.worker hand.new.worker }
+    ensures holds { SameHolds hand.old.worker.holds hand.new.worker.holds }
     ensures acted { made_of (token_of hand.new.pass).own ≤ made_of (token_of hand.old.pass).own + 2 }
     ensures same { (hand.new.stride ≡ hand.old.stride) × (hand.new.made ≡ hand.old.made) }
 {

@@ -1,6 +1,7 @@
 //! A cord with its record, if it has one.
 ghost use Rattle.std.specs.Prelude.{◌≡◌, ◌+◌, ◌≤◌, ◌^◌, length, MatchOption};
 ghost use Rattle.std.specs.Bool.{⊤};
+ghost use Rattle.pool_rule.specs.Trades.{SameHolds};
 ghost use Rattle.record_rule.specs.Log.{made_of};
 ghost use Rattle.cordz_desk.specs.Tokens.{token_of};
 ghost use Rattle.cord_value.specs.Views.{passes_of};
@@ -42,6 +43,7 @@ impl<P: Naming, D: DeskNaming> SampledCord<P, D> {
         ensures mark { result ≡ gone_mark (ticket_in self) }
         ensures left { IsLeft P.limit (ticket_in self) (passes_of (cord_in self).tree) (token_of hand.old.pass) (token_of hand.new.pass)
             hand.old.worker hand.new.worker }
+        ensures holds { SameHolds hand.old.worker.holds hand.new.worker.holds }
         ensures acted { made_of (token_of hand.new.pass).own ≤ made_of (token_of hand.old.pass).own + 3 }
         ensures same { (hand.new.stride ≡ hand.old.stride) × (hand.new.made ≡ hand.old.made) }
     {
