@@ -17,6 +17,9 @@ module _ (bytes needle : List ℕ) where
     record { fits = omega (arith, none); reads = λ j lt. absurd (omega (arith, none, lt)) },
   )
 
+  pub longer-never : length bytes < length needle → FindsNeedle bytes needle 0 None
+  longer-never less = λ k low high occurs. omega (arith, less, occurs.fits)
+
   module _ (rest new : Reading) (chunk : List ℕ) (start : ℕ) (same : rest.bytes ≡ bytes) (at : rest.at ≡ start) where
     pub chunk-ends : IsNext chunk rest new → start + length chunk ≤ length bytes
     chunk-ends next = omega (arith, piece-ends rest chunk next.is next.some, at, ap length same)

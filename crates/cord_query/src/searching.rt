@@ -22,6 +22,10 @@ pub fn find<P: Naming>(cord: &Cord<P>, needle: &[u8]) -> Option<u64>
     if needle.is_empty() {
         return Some(0);
     }
+    let longer = needle.len() as u64 > cord.len();
+    if longer {
+        return None;
+    }
     let small = needle.len() <= SMALL_ROOM / 2;
     if small {
         find_with(cord, needle, &mut [0; SMALL_ROOM])
