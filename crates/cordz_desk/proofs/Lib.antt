@@ -7,3 +7,4 @@ pub mod Rising
 pub mod Sharing
 pub mod Showing
 pub mod Turning
+pub mod Untouching

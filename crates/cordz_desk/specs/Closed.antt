@@ -20,6 +20,7 @@ use Rattle.record_rule.specs.World.{Facts, IsSlotIn}
 use Rattle.cordz_desk.specs.declared.desk.CordzDesk.{CordzDesk}
 use Rattle.cordz_desk.specs.declared.share.Share.{Share}
 use Rattle.turn_desk.specs.Passes.{desk_view}
+use Rattle.cordz_desk.specs.Keeps.{kept_in}
 use Rattle.cordz_desk.specs.Seeing.{given_by, back_to}
 use Rattle.cordz_desk.specs.Shares.{tree_in, IsShare}
 
@@ -39,7 +40,7 @@ returning_view v w = Root (given_by v) (token_in w ∷ back_to v)
 -- how many passes a desk gave
 module _ {P D : Type 0} {d : _} where
   abbrev pub passes_given : CordzDesk P D d → ℕ
-  passes_given c = given_by (desk_view c.root)
+  passes_given c = given_by (desk_view (kept_in c.root))
 
 -- what a token knew
 pub record Knew (g : Facts) (p : TokenView) : Type 0 where

@@ -1,6 +1,7 @@
 pub mod Asking
 pub mod Closed
 pub mod Fresh
+pub mod Keeps
 pub mod Opened
 pub mod Owners
 pub mod Reading
@@ -9,3 +10,4 @@ pub mod Seeing
 pub mod Shares
 pub mod Tickets
 pub mod Tokens
+pub mod Untouched

@@ -27,7 +27,7 @@ impl<P: Naming, D: DeskNaming> CordzDesk<P, D> {
             shares,
             of: _,
         } = self;
-        let root = gathered(&desk, root, passes);
+        let root = gathered(&desk, root.into_value(), passes);
         let values = desk.close(root);
         let room = shares.into_room();
         shares_left(values, room)

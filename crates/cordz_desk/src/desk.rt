@@ -8,11 +8,13 @@ ghost use Rattle.record_rule.specs.Steps.{Does, Leaves, Makes, registry_of};
 ghost use Rattle.record_rule.specs.Views.{done_view, token_in, most_actions, IsTokenView, HasDone};
 ghost use Rattle.record_rule.specs.declared.views.DeskView.{DeskView};
 ghost use Rattle.cordz_desk.specs.Asking.{May, IsAnswerTo, HasSmall, IsOnce};
+ghost use Rattle.cordz_desk.specs.Keeps.{kept_in};
 ghost use Rattle.cordz_desk.specs.Reps.{rep_of, IsRep, FoundAt};
 ghost use Rattle.cordz_desk.specs.Seeing.{IsRootView};
 ghost use Rattle.cordz_desk.specs.Shares.{tree_in, IsShare};
 
 use crate::asking::{Ask, perform};
+use crate::keeping::Kept;
 use crate::naming::DeskNaming;
 use crate::rule::RecordRule;
 use crate::share::Share;
@@ -28,15 +30,15 @@ use turn_desk::{Desk, Leave, Turn};
 pub struct CordzDesk<P: Naming, D: DeskNaming> {
     pub(crate) desk: Desk<RecordRule<Share<P>>>,
     // The first token. All passes come back to it at the end.
-    pub(crate) root: Seated<P>,
+    pub(crate) root: Kept<Seated<P>>,
     // Room for the shares that `close` gives.
     pub(crate) shares: Reserve<Share<P>>,
     pub(crate) of: PhantomData<D>,
     ghost named: { desk.table.shared.table_id ≡ D.desk },
     ghost places: { desk_places desk ≡ 257 },
-    ghost rooted: { root.table_id ≡ D.desk },
-    ghost idle: { IsIdle root },
-    ghost first: { IsRootView (desk_view root) },
+    ghost rooted: { (kept_in root).table_id ≡ D.desk },
+    ghost idle: { IsIdle (kept_in root) },
+    ghost first: { IsRootView (desk_view (kept_in root)) },
     ghost room: { 257 ≤ room_of shares },
 }
 

@@ -7,6 +7,7 @@ mod changes;
 mod closing;
 mod desk;
 mod handing;
+mod keeping;
 mod list;
 mod naming;
 mod reading;

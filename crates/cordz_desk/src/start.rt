@@ -6,6 +6,7 @@ ghost use Rattle.record_rule.specs.declared.views.DeskView.TheVariants.{Root};
 ghost use Rattle.cordz_desk.specs.Fresh.{AreFresh};
 
 use crate::desk::CordzDesk;
+use crate::keeping::Kept;
 use crate::naming::DeskNaming;
 use crate::rule::RecordRule;
 use crate::share::Share;
@@ -117,6 +118,13 @@ impl<P: Naming> OpenedDesk<P> {
                 of: PhantomData,
             });
         }
+        let root = match Kept::new(alloc, root) {
+            Ok(root) => root,
+            Err(root) => {
+                desk.close(root);
+                return Err(Memory);
+            }
+        };
         let desk = CordzDesk {
             desk,
             root,
