@@ -188,7 +188,7 @@ fn held_below(
 ) -> Result<(usize, MemorySink), MemorySink> {
     let made: Result<BufferedSink<MemorySink, Brand>, MemorySink> = BufferedSink::new(alloc, below);
     let mut sink = made?;
-    let mut emptied = 0;
+    let mut emptied: usize = 0;
     for piece in [b"one".as_slice(), b"two".as_slice(), b"three".as_slice()] {
         if write_all(&mut sink, piece).is_err() {
             return Err(sink.into_below());
@@ -196,7 +196,7 @@ fn held_below(
     }
     for _ in 0..attempts {
         if sink.flush().is_ok() {
-            emptied += 1;
+            emptied = emptied.saturating_add(1);
         }
     }
     Ok((emptied, sink.into_below()))
@@ -217,7 +217,7 @@ fn buffer_loses_nothing_where_the_sink_takes_little_or_fails(rt: HostRuntime) ->
                 } else if attempts == 2 {
                     (1, text.len())
                 } else {
-                    (0, most * (failing - 1))
+                    (0, (failing - 1).saturating_mul(most).min(text.len()))
                 };
                 match held_below(rt.alloc(), below, attempts) {
                     Ok((times, below)) => {
