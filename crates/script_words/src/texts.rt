@@ -93,24 +93,27 @@ fn all_plain(bytes: &[u8]) -> bool
     all
 }
 
-/// So many bytes in front that stand for themselves: some blocks of 64, tested at once.
-fn plain_blocks(bytes: &[u8]) -> usize
+/// So many bytes in front that stand for themselves: those that are known to, and some blocks of `N`, each tested at once.
+fn plain_blocks<const N: usize>(bytes: &[u8], known: usize) -> usize
+    requires some { 0 < N }
+    requires within { known ≤ length bytes.now }
+    requires plain { list_all stands_for_itself (take known bytes.now) ≡ true }
     ensures within { result ≤ length bytes.now }
     ensures plain { list_all stands_for_itself (take result bytes.now) ≡ true }
 {
-    let mut run = 0;
-    while bytes.len() - run >= 64 && all_plain(&bytes[run..run + 64]) {
-        run += 64;
+    let mut run = known;
+    while bytes.len() - run >= N && all_plain(&bytes[run..run + N]) {
+        run += N;
     }
     run
 }
 
-/// All bytes in front that stand for themselves.
+/// All bytes in front that stand for themselves: large blocks, then small ones, then one after the other.
 fn plain_run(bytes: &[u8]) -> usize
     ensures within { result ≤ length bytes.now }
     ensures plain { list_all stands_for_itself (take result bytes.now) ≡ true }
 {
-    let mut run = plain_blocks(bytes);
+    let mut run = plain_blocks::<8>(bytes, plain_blocks::<64>(bytes, 0));
     while run < bytes.len() && is_plain(bytes[run]) {
         run += 1;
     }
@@ -139,13 +142,23 @@ fn read_behind(front: Items<u8>, bytes: &[u8]) -> Result<(Items<u8>, &[u8]), Ref
     Err(Refused::Fault(Cause::Text))
 }
 
+/// The same, at once where the closing quote comes next.
+fn read_on(front: Items<u8>, bytes: &[u8]) -> Result<(Items<u8>, &[u8]), Refused>
+    ensures { Gives (λ x. (x.0, x.1.now)) result (with_front front (piece_at Plain bytes.now)) }
+{
+    match bytes {
+        [b'"', rest @ ..] => Ok((front, rest)),
+        _ => read_behind(front, bytes),
+    }
+}
+
 /// The bytes up to the closing quote, and what stands behind it. Those before the first escape are copied at once.
 fn read_piece(alloc: Global, bytes: &[u8]) -> Result<(Items<u8>, &[u8]), Refused>
     ensures { Gives (λ x. (x.0, x.1.now)) result (piece_at Plain bytes.now) }
 {
     let run = plain_run(bytes);
     let front = Items::from_slice(alloc, &bytes[..run])?;
-    read_behind(front, &bytes[run..])
+    read_on(front, &bytes[run..])
 }
 
 /// How often the bytes stand: once, or the count behind `*`.

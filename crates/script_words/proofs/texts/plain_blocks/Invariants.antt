@@ -5,7 +5,7 @@ use Rattle.script_words.specs.Texts.{stands_for_itself}
 use Rattle.script_words.proofs.texts.plain_blocks.Given as goal
 
 abbrev pub invariant-loop-run : goal.invariant-loop-run
-invariant-loop-run l = (l.run ≤ length l.bytes) × (list_all stands_for_itself (take l.run l.bytes) ≡ true)
+invariant-loop-run g l = (l.run ≤ length l.bytes) × (list_all stands_for_itself (take l.run l.bytes) ≡ true)
 
 abbrev pub decreases-loop-run : goal.decreases-loop-run
-decreases-loop-run l = length l.bytes - l.run
+decreases-loop-run g l = length l.bytes - l.run
