@@ -5,6 +5,7 @@ ghost use Rattle.node_edges.specs.Ways.{branches_down};
 ghost use Rattle.pool_rule.specs.Trades.{HasHolds, Trades};
 ghost use Rattle.node_pool.specs.Opened.{opened_table, opened_numbers, opened_passes, opened_workers, opened_boxes};
 
+use crate::steps::{From, Step, stepped};
 use cord_port::{LogReleaser, Releaser};
 use cord_value::Cord;
 use node_pool::{Body, Closed, Edge, Naming, Opened, Pool, PoolRefused, Worker};
@@ -266,5 +267,75 @@ fn boxes_come_back_from_a_pool_that_starts_and_from_one_that_does_not(rt: HostRu
     match Opened::start(alloc, 8, 1, 2, boxes) {
         Ok(opened) => assert!(rt; named::<Brand>(alloc, opened)),
         Err(PoolRefused { releasers }) => assert!(rt; told(releasers.as_slice())),
+    }
+}
+
+/// What three steps on a cord over an external of 100 bytes leave, released or not: how many numbers are in use, how often the box
+/// was called, and its latest length.
+fn changed<P: Naming>(
+    alloc: Global,
+    opened: Opened<Boxes>,
+    steps: [Step; 3],
+    release: bool,
+) -> Option<(u32, u64, Option<u64>)>
+    requires table { opened_table opened ≡ P.table }
+    requires numbers { opened_numbers opened ≡ P.size }
+    requires passes { opened_passes opened ≡ P.limit }
+    requires workers { (opened_workers opened ≡ P.workers) × (P.workers ≡ 1) }
+    requires boxes { opened_boxes opened ≡ P.boxes }
+{
+    let bytes = vec![in alloc; 120u8; 100].ok()?;
+    let (pool, mut workers) = opened.named::<P>(alloc).ok()?;
+    let w = &mut workers[0];
+    let cord = stepped(alloc, &pool, w, bytes.as_slice(), From::External, steps).ok()?;
+    if release {
+        cord.release(&pool, w);
+    }
+    let Closed { in_use, releasers } = pool.close(workers);
+    let first = releasers.first()?;
+    Some((in_use, first.calls(), first.latest()))
+}
+
+#[test]
+fn the_box_of_an_external_is_called_once_when_its_last_part_or_sum_has_gone(rt: HostRuntime) {
+    let alloc = rt.alloc();
+    let nothing = Step::Copy;
+    for (steps, kept, gone) in [
+        (
+            [Step::Range(10, 80), Step::Range(10, 50), Step::Range(5, 30)],
+            (2u32, 0u64, None),
+            (0u32, 1u64, Some(100u64)),
+        ),
+        (
+            [Step::CutFront(10), Step::CutBack(10), Step::SetSum(7)],
+            (3, 0, None),
+            (0, 1, Some(100)),
+        ),
+        (
+            [Step::SetSum(7), Step::CutBack(20), nothing],
+            (2, 0, None),
+            (0, 1, Some(100)),
+        ),
+        (
+            [Step::CutFront(100), nothing, nothing],
+            (0, 1, Some(100)),
+            (0, 1, Some(100)),
+        ),
+        (
+            [Step::CutFront(50), Step::CutBack(40), nothing],
+            (0, 1, Some(100)),
+            (0, 1, Some(100)),
+        ),
+        (
+            [Step::Join(600), Step::Range(100, 600), nothing],
+            (1, 1, Some(100)),
+            (0, 1, Some(100)),
+        ),
+    ] {
+        for (release, seen) in [(false, kept), (true, gone)] {
+            let opened = with_box(alloc, 2).expect(&rt, "memory");
+            let answer = changed::<Brand>(alloc, opened, steps, release);
+            assert_eq!(rt; answer, Some(seen), "{steps:?}, released: {release}");
+        }
     }
 }
