@@ -1,14 +1,17 @@
 -- What calls leave a worker with, one after another.
-use Rattle.std.proofs.Common.{◌≡◌, ℕ, ◌+◌, ◌<◌, List, [], ◌∷◌, ◌++◌, length, refl, sym, subst, ap, ◌∙◌, arith, append-nil}
+use Rattle.std.proofs.Common.{◌≡◌, ℕ, ◌+◌, ◌<◌, List, [], ◌∷◌, ◌++◌, length, sum_by, refl, sym, subst, ap, ◌∙◌, arith, append-nil}
 use Rattle.std.proofs.lemmas.List.{length-append, append_assoc}
 use Rattle.std.proofs.lemmas.List.Elements.{All-append, All-nil}
 use Rattle.pool_rule.specs.Gains.{no_gain, gain_then}
+use Rattle.node_forest.specs.Label.{Node}
 use Rattle.pool_rule.specs.Notes.{Count}
+use Rattle.pool_rule.specs.Trades.{Trades}
 use Rattle.pool_rule.specs.Views.{View}
 use Rattle.pool_rule.proofs.Gains.{gained-then}
 use Rattle.pool_rule.proofs.Trades.{trade, Trades-same}
-use Rattle.node_pool.specs.Passes.{uncounted, IsPassMade}
-use Rattle.node_pool.proofs.Gaining.{gained-ended}
+use Rattle.node_pool.specs.Finishes.{IsFinished}
+use Rattle.node_pool.specs.Passes.{drawn, uncounted, IsPassMade}
+use Rattle.node_pool.proofs.Gaining.{gained-drawn, gained-ended, gained-finished}
 use Rattle.cord_value.specs.Refusals.{AreCountsOf, IsBalanced}
 use Rattle.cord_value.specs.Workers.{AreBelow, Keeps}
 use Rattle.cord_value.specs.declared.refusals.CordError.{CordError}
@@ -36,6 +39,16 @@ module _ (limit : ℕ) where
     looks = none-then one.gain.looks two.gain.looks one.looks two.looks;
   }
 
+  -- the same, with what the numbers of passes come to
+  pub keeps-on : (xs ys : List ℕ) (a b c d m n : ℕ) (u v w : View) → Keeps limit xs a b u v → Keeps limit ys c d v w → a + c ≡ m → b + d ≡ n → Keeps limit (xs ++ ys) m n u w
+  keeps-on xs ys a b c d m n u v w one two made gone =
+      subst (λ (k : ℕ). Keeps limit (xs ++ ys) k n u w) made (subst (λ (k : ℕ). Keeps limit (xs ++ ys) (a + c) k u w) gone (keeps-then xs ys a b c d u v w one two))
+
+  -- and no number more
+  pub keeps-still : (xs : List ℕ) (a b c d m n : ℕ) (u v w : View) → Keeps limit xs a b u v → Keeps limit [] c d v w → a + c ≡ m → b + d ≡ n → Keeps limit xs m n u w
+  keeps-still xs a b c d m n u v w one two made gone =
+      subst (λ (ys : List ℕ). Keeps limit ys m n u w) (append-nil xs) (keeps-on xs [] a b c d m n u v w one two made gone)
+
   -- a pass was made
   pub keeps-passed : (v w : View) → IsPassMade limit v w → Keeps limit [] 1 0 v w
   keeps-passed v w made = keeps-copied limit v w w made (keeps-same limit w w refl)
@@ -52,6 +65,33 @@ module _ (limit : ℕ) where
     ended = refl;
     used = refl;
     looks = refl;
+  }
+
+  -- a pass's tree was left, and the pass is empty
+  pub keeps-emptied : (e : Node) (v a w p : View) → a ≡ drawn v p → Trades v.holds [] p.holds a.holds → p.holds ≡ e ∷ []
+      → IsFinished e a w → Trades a.holds (e ∷ []) [] w.holds → Keeps limit [] 0 0 v w
+  keeps-emptied e v a w p drawn_is came one finished left = record {
+    holds = trade v.holds [] [] w.holds (λ f. omega (arith, came.weighs f, left.weighs f, ap (sum_by f) one));
+    gain = gain_then no_gain (record no_gain { returned = finished.back });
+    gained = gained-then _ _ v a w (gained-drawn v a p drawn_is) (gained-finished a w e finished);
+    taken = refl;
+    made = refl;
+    below = All-nil _;
+    ended = refl;
+    used = refl;
+    looks = refl;
+  }
+
+  -- as many passes were made as ended
+  pub balanced-memory : (xs : List ℕ) (m n : ℕ) (v w : View) → m ≡ n → Keeps limit xs m n v w → IsBalanced limit Memory v w
+  balanced-memory xs m n v w even k = record {
+    holds = k.holds;
+    gain = k.gain;
+    gained = k.gained;
+    counts = k.below;
+    ended = omega (arith, k.ended, k.made, even);
+    used = k.used;
+    looks = k.looks;
   }
 
   -- ---- refused within

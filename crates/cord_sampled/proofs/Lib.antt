@@ -1,4 +1,7 @@
 -- The lemmas of this crate.
 pub mod Acting
+pub mod ChangedLaws
 pub mod GivenBack
+pub mod GrownLaws
 pub mod Keeping
+pub mod MadeLaws

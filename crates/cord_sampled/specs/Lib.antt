@@ -1,6 +1,12 @@
+pub mod Changes
+pub mod Changing
 pub mod Copies
+pub mod Edits
+pub mod Grown
 pub mod Leaving
+pub mod Making
 pub mod Props
+pub mod Publishing
 pub mod Records
 pub mod Refusals
 pub mod Sampled

@@ -1,20 +1,32 @@
 //! Cords of which some are sampled: a sampled cord has a record, which a walk over records finds, with a share of its tree.
 //!
-//! Not here yet: cords that are made or changed with a record, and the copy that a peek makes. A record's share is made of a cord's tree and the pass that
-//! holds it, which no call on cords gives.
+//! Not here yet: cords over externals, cords added to a cord, and the copy that a peek makes. No clause says why a range's cord is refused, nor names the
+//! plain step's mark; marks are told by the records that they stand for. A record's share is held while its cord is changed.
 #![tactic(auto)]
 
+mod changes;
+mod changing;
 mod copies;
+mod copying;
 mod cord;
+mod edits;
+mod growing;
 mod hand;
 mod leaving;
+mod making;
 mod mark;
 mod passes;
+mod publishing;
+mod sampling;
+mod sharing;
+#[cfg(test)]
+mod tests;
 mod tracking;
 mod waiting;
 
 pub use copies::{Copied, adopt};
 pub use cord::SampledCord;
+pub use edits::Edit;
 pub use hand::Hand;
 pub use mark::Mark;
 pub use passes::Ready;

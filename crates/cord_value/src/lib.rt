@@ -1,6 +1,7 @@
 //! Cords: a few bytes inline, or a tree of counted nodes that a pass keeps between calls.
 #![tactic(auto)]
 
+mod apart;
 mod copies;
 mod cord;
 mod cutting;
