@@ -5,3 +5,4 @@ pub mod GivenBack
 pub mod GrownLaws
 pub mod Keeping
 pub mod MadeLaws
+pub mod SameCord

@@ -5,6 +5,7 @@ pub mod Edits
 pub mod Grown
 pub mod Leaving
 pub mod Making
+pub mod Peeks
 pub mod Props
 pub mod Publishing
 pub mod Records

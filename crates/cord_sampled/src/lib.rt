@@ -1,6 +1,6 @@
 //! Cords of which some are sampled: a sampled cord has a record, which a walk over records finds, with a share of its tree.
 //!
-//! Not here yet: cords over externals, cords added to a cord, and the copy that a peek makes. No clause says why a range's cord is refused, nor names the
+//! Not here yet: cords over externals, and cords added to a cord. No clause says why a range's cord is refused, nor names the
 //! plain step's mark; marks are told by the records that they stand for. A record's share is held while its cord is changed.
 #![tactic(auto)]
 
@@ -16,6 +16,7 @@ mod leaving;
 mod making;
 mod mark;
 mod passes;
+mod peeking;
 mod publishing;
 mod sampling;
 mod sharing;
@@ -30,4 +31,5 @@ pub use edits::Edit;
 pub use hand::Hand;
 pub use mark::Mark;
 pub use passes::Ready;
+pub use peeking::Peeker;
 pub use waiting::{give_back, ready};
