@@ -40,7 +40,7 @@ returning_view v w = Root (given_by v) (token_in w ∷ back_to v)
 -- how many passes a desk gave
 module _ {P D : Type 0} {d : _} where
   abbrev pub passes_given : CordzDesk P D d → ℕ
-  passes_given c = given_by (desk_view (kept_in c.root))
+  passes_given c = given_by (desk_view (kept_in c.parts.root))
 
 -- what a token knew
 pub record Knew (g : Facts) (p : TokenView) : Type 0 where

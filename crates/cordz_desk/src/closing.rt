@@ -9,6 +9,7 @@ ghost use Rattle.cordz_desk.specs.Tokens.{token_of};
 use crate::desk::CordzDesk;
 use crate::handing::Returning;
 use crate::naming::DeskNaming;
+use crate::parts::Parts;
 use crate::rule::RecordRule;
 use crate::share::Share;
 use crate::tokens::{CordzPass, Seated};
@@ -21,12 +22,8 @@ impl<P: Naming, D: DeskNaming> CordzDesk<P, D> {
     pub fn close(self, passes: Vec<CordzPass<P, D>>) -> Vec<Share<P>>
         ensures { IsClosed (map token_of passes.items) (passes_given self) result.items }
     {
-        let CordzDesk {
-            desk,
-            root,
-            shares,
-            of: _,
-        } = self;
+        let CordzDesk { parts, of: _ } = self;
+        let Parts { desk, root, shares } = parts;
         let root = gathered(&desk, root.into_value(), passes);
         let values = desk.close(root);
         let room = shares.into_room();

@@ -10,36 +10,29 @@ ghost use Rattle.record_rule.specs.declared.views.DeskView.{DeskView};
 ghost use Rattle.cordz_desk.specs.Asking.{May, IsAnswerTo, HasSmall, IsOnce};
 ghost use Rattle.cordz_desk.specs.Keeps.{kept_in};
 ghost use Rattle.cordz_desk.specs.Reps.{rep_of, IsRep, FoundAt};
-ghost use Rattle.cordz_desk.specs.Seeing.{IsRootView};
 ghost use Rattle.cordz_desk.specs.Shares.{tree_in, IsShare};
 
 use crate::asking::{Ask, perform};
-use crate::keeping::Kept;
 use crate::naming::DeskNaming;
+use crate::parts::Parts;
 use crate::rule::RecordRule;
 use crate::share::Share;
 use crate::tokens::Seated;
 use node_pool::Naming;
 use record_rule::{Deed, DeskView};
-use room_reserve::Reserve;
 use std::marker::{Brand, PhantomData};
 use std::sync::Wait;
-use turn_desk::{Desk, Leave, Turn};
+use turn_desk::{Leave, Turn};
 
 /// The registry, and the records of its 256 slots, which threads take in turns.
 pub struct CordzDesk<P: Naming, D: DeskNaming> {
-    pub(crate) desk: Desk<RecordRule<Share<P>>>,
-    // The first token. All passes come back to it at the end.
-    pub(crate) root: Kept<Seated<P>>,
-    // Room for the shares that `close` gives.
-    pub(crate) shares: Reserve<Share<P>>,
+    pub(crate) parts: Parts<Share<P>>,
     pub(crate) of: PhantomData<D>,
-    ghost named: { desk.table.shared.table_id ≡ D.desk },
-    ghost places: { desk_places desk ≡ 257 },
-    ghost rooted: { (kept_in root).table_id ≡ D.desk },
-    ghost idle: { IsIdle (kept_in root) },
-    ghost first: { IsRootView (desk_view (kept_in root)) },
-    ghost room: { 257 ≤ room_of shares },
+    ghost named: { parts.desk.table.shared.table_id ≡ D.desk },
+    ghost places: { desk_places parts.desk ≡ 257 },
+    ghost rooted: { (kept_in parts.root).table_id ≡ D.desk },
+    ghost idle: { IsIdle (kept_in parts.root) },
+    ghost room: { 257 ≤ room_of parts.shares },
 }
 
 // Which view a token has after its turn, for clauses alone.
@@ -62,7 +55,7 @@ impl<B: Becoming> Leave<DeskView> for Becomes<B> {
 impl<P: Naming, D: DeskNaming> CordzDesk<P, D> {
     /// A token's action or read.
     pub(crate) fn act<R: Wait>(&self, rt: &R, pass: &mut Seated<P>, ask: Ask) -> Deed
-        requires desk { IsOf self.now.desk pass.old }
+        requires desk { IsOf self.now.parts.desk pass.old }
         requires idle { IsIdle pass.old }
         requires token { IsTokenView (desk_view pass.old) }
         requires may { May ask (token_in (desk_view pass.old)) }
@@ -74,7 +67,7 @@ impl<P: Naming, D: DeskNaming> CordzDesk<P, D> {
         ensures small { HasSmall result }
         ensures once { IsOnce result }
     {
-        let mut turn = self.desk.enter(rt, pass, 0);
+        let mut turn = self.parts.desk.enter(rt, pass, 0);
         let deed = perform(turn.value(), ask);
         self.leave::<Brand>(pass, turn, &deed);
         deed
@@ -87,7 +80,7 @@ impl<P: Naming, D: DeskNaming> CordzDesk<P, D> {
         pass: &mut Seated<P>,
         slot: u16,
     ) -> Turn<RecordRule<Share<P>>>
-        requires desk { IsOf self.now.desk pass.old }
+        requires desk { IsOf self.now.parts.desk pass.old }
         requires idle { IsIdle pass.old }
         requires slot { slot < 256 }
         ensures pass { IsSamePass pass.old pass.new × (desk_view pass.new ≡ desk_view pass.old) }
@@ -97,7 +90,7 @@ impl<P: Naming, D: DeskNaming> CordzDesk<P, D> {
         ensures rep { IsRep (taken_value result) }
         ensures found { FoundAt slot (rep_of (taken_value result)) (desk_view pass.old) }
     {
-        self.desk.enter(rt, pass, usize::from(slot) + 1)
+        self.parts.desk.enter(rt, pass, usize::from(slot) + 1)
     }
 
     // Leaves the turn of a slot's record for a view that the caller chose.
@@ -107,14 +100,14 @@ impl<P: Naming, D: DeskNaming> CordzDesk<P, D> {
         turn: Turn<RecordRule<Share<P>>>,
         slot: u16,
     )
-        requires desk { IsOf self.now.desk pass.old }
+        requires desk { IsOf self.now.parts.desk pass.old }
         requires turn { HasTurn pass.old (turn_place turn) (taken_value turn) }
         requires place { turn_place turn ≡ slot + 1 }
         requires leaves { Leaves tree_in IsShare (turn_place turn) (taken_value turn) (turn_value turn) (desk_view pass.old) (B.after (desk_view pass.old)) }
         ensures pass { IsSamePass pass.old pass.new × IsIdle pass.new }
         ensures view { desk_view pass.new ≡ B.after (desk_view pass.old) }
     {
-        self.desk.exit_to::<Becomes<B>>(pass, turn);
+        self.parts.desk.exit_to::<Becomes<B>>(pass, turn);
     }
 
     fn leave<B: Becoming>(
@@ -124,7 +117,7 @@ impl<P: Naming, D: DeskNaming> CordzDesk<P, D> {
         deed: &Deed,
     )
         requires after { B.after ≡ done_view (registry_of (turn_value turn)).clock deed.now }
-        requires desk { IsOf self.now.desk pass.old }
+        requires desk { IsOf self.now.parts.desk pass.old }
         requires turn { HasTurn pass.old (turn_place turn) (taken_value turn) }
         requires first { turn_place turn ≡ 0 }
         requires token { IsTokenView (desk_view pass.old) }
@@ -134,6 +127,6 @@ impl<P: Naming, D: DeskNaming> CordzDesk<P, D> {
         ensures pass { IsSamePass pass.old pass.new × IsIdle pass.new }
         ensures view { desk_view pass.new ≡ done_view (registry_of (turn_value turn)).clock deed.now (desk_view pass.old) }
     {
-        self.desk.exit_to::<Becomes<B>>(pass, turn);
+        self.parts.desk.exit_to::<Becomes<B>>(pass, turn);
     }
 }

@@ -5,11 +5,13 @@
 mod asking;
 mod changes;
 mod closing;
+mod crossing;
 mod desk;
 mod handing;
 mod keeping;
 mod list;
 mod naming;
+mod parts;
 mod reading;
 mod records;
 mod reps;

@@ -139,7 +139,7 @@ impl<P: Naming, D: DeskNaming> CordzDesk<P, D> {
         edge: &Edge,
     )
         requires after { B.after ≡ reading_view (noted_as note edge.now) }
-        requires desk { IsOf self.now.desk pass.old }
+        requires desk { IsOf self.now.parts.desk pass.old }
         requires turn { HasTurn pass.old (turn_place turn) (taken_value turn) }
         requires place { turn_place turn ≡ slot + 1 }
         requires slot { slot < 256 }
@@ -160,9 +160,9 @@ impl<P: Naming, D: DeskNaming> CordzDesk<P, D> {
         ensures ticket { IsSameTicket ticket.old ticket.new }
         ensures rest { IsAtRest ticket.new }
     {
-        let lent = self.desk.split::<Lending>(&mut ticket.pass);
-        self.desk.merge::<Seeing>(&mut pass.pass, lent);
-        let back = self.desk.split::<Issuing>(&mut pass.pass);
-        self.desk.merge::<Filling>(&mut ticket.pass, back);
+        let lent = self.parts.desk.split::<Lending>(&mut ticket.pass);
+        self.parts.desk.merge::<Seeing>(&mut pass.pass, lent);
+        let back = self.parts.desk.split::<Issuing>(&mut pass.pass);
+        self.parts.desk.merge::<Filling>(&mut ticket.pass, back);
     }
 }

@@ -8,6 +8,7 @@ ghost use Rattle.cordz_desk.specs.Fresh.{AreFresh};
 use crate::desk::CordzDesk;
 use crate::keeping::Kept;
 use crate::naming::DeskNaming;
+use crate::parts::Parts;
 use crate::rule::RecordRule;
 use crate::share::Share;
 use crate::tokens::{CordzPass, Seated};
@@ -126,9 +127,7 @@ impl<P: Naming> OpenedDesk<P> {
             }
         };
         let desk = CordzDesk {
-            desk,
-            root,
-            shares,
+            parts: Parts { desk, root, shares },
             of: PhantomData,
         };
         Ok((desk, passes))

@@ -49,7 +49,7 @@ impl<P: Naming, D: DeskNaming> CordzDesk<P, D> {
         let Reserved { slot, stamp } = reserved;
         let note = self.fill(rt, &mut pass.pass, slot, stamp, share, method);
         self.act(rt, &mut pass.pass, Ask::Track(slot));
-        let owner = self.desk.split::<Issuing>(&mut pass.pass);
+        let owner = self.parts.desk.split::<Issuing>(&mut pass.pass);
         Ticket {
             pass: owner,
             slot,
@@ -78,7 +78,7 @@ impl<P: Naming, D: DeskNaming> CordzDesk<P, D> {
             note: _,
             of: _,
         } = ticket;
-        self.desk.merge::<Redeeming>(&mut pass.pass, owner);
+        self.parts.desk.merge::<Redeeming>(&mut pass.pass, owner);
         match self.unlink_and_settle(rt, &mut pass.pass, slot) {
             Settled::Deleted => self.clear(rt, &mut pass.pass, slot),
             Settled::Queued => None,

@@ -36,7 +36,7 @@ impl<P: Naming, D: DeskNaming> CordzDesk<P, D> {
         share: Share<P>,
         method: u8,
     ) -> Note
-        requires desk { IsOf self.now.desk pass.old }
+        requires desk { IsOf self.now.parts.desk pass.old }
         requires idle { IsIdle pass.old }
         requires token { IsTokenView (desk_view pass.old) }
         requires slot { slot < 256 }
@@ -66,7 +66,7 @@ impl<P: Naming, D: DeskNaming> CordzDesk<P, D> {
 
     // Takes the share out of the record of a slot that is to be cleared.
     pub(crate) fn drain<R: Wait>(&self, rt: &R, pass: &mut Seated<P>, slot: u16) -> Option<Share<P>>
-        requires desk { IsOf self.now.desk pass.old }
+        requires desk { IsOf self.now.parts.desk pass.old }
         requires idle { IsIdle pass.old }
         requires token { IsTokenView (desk_view pass.old) }
         requires slot { slot < 256 }
@@ -88,7 +88,7 @@ impl<P: Naming, D: DeskNaming> CordzDesk<P, D> {
         pass: &mut Seated<P>,
         slot: u16,
     ) -> Settled
-        requires desk { IsOf self.now.desk pass.old }
+        requires desk { IsOf self.now.parts.desk pass.old }
         requires idle { IsIdle pass.old }
         requires token { IsTokenView (desk_view pass.old) }
         requires claim { IsOwned (claim_at (token_in (desk_view pass.old)).claims slot) }
@@ -106,7 +106,7 @@ impl<P: Naming, D: DeskNaming> CordzDesk<P, D> {
 
     // Empties a slot that is to be cleared, and frees it.
     pub(crate) fn clear<R: Wait>(&self, rt: &R, pass: &mut Seated<P>, slot: u16) -> Option<Share<P>>
-        requires desk { IsOf self.now.desk pass.old }
+        requires desk { IsOf self.now.parts.desk pass.old }
         requires idle { IsIdle pass.old }
         requires token { IsTokenView (desk_view pass.old) }
         requires slot { slot < 256 }

@@ -22,15 +22,15 @@ shares_left-requires-clause-room g c =
 pub gathered-root-requires-clause-root : goal.gathered-root-requires-clause-root
 gathered-root-requires-clause-root g c =
     let d = c.args.self in
-    subst (λ r. (r.table_id ≡ d.desk.table.shared.table_id) × IsIdle r) (sym c.into_value.ensures) (d.rooted ∙ sym d.named, d.idle)
+    subst (λ r. (r.table_id ≡ d.parts.desk.table.shared.table_id) × IsIdle r) (sym c.into_value.ensures) (d.rooted ∙ sym d.named, d.idle)
 
 pub gathered-root-requires-clause-first : goal.gathered-root-requires-clause-first
-gathered-root-requires-clause-first g c = subst (λ r. IsRootView (desk_view r)) (sym c.into_value.ensures) c.args.self.first
+gathered-root-requires-clause-first g c = subst (λ r. IsRootView (desk_view r)) (sym c.into_value.ensures) c.args.self.parts.first
 
 pub returns : goal.returns
 returns g c =
     let e = c.close-values.ensures in
-    let v = desk_view (kept_in c.args.self.root) in
+    let v = desk_view (kept_in c.args.self.parts.root) in
     let ps = map token_of c.args.passes.items in
     closed e.spots e.views _ (given_by v) (back_to v) ps _ _ e.agreed
     (e.mine ∙ ap (λ (z : DeskView). some (Some z)) (c.gathered-root.ensures.view ∙ ap (λ r. Root (given_by (desk_view r)) (returned ps (back_to (desk_view r)))) c.into_value.ensures)) e.given c.shares_left.ensures
