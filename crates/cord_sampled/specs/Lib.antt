@@ -2,6 +2,7 @@ pub mod Changes
 pub mod Changing
 pub mod Copies
 pub mod Edits
+pub mod Externals
 pub mod Grown
 pub mod Leaving
 pub mod Making

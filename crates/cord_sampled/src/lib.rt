@@ -1,7 +1,7 @@
 //! Cords of which some are sampled: a sampled cord has a record, which a walk over records finds, with a share of its tree.
 //!
-//! Not here yet: cords over externals, and cords added to a cord. No clause says why a range's cord is refused, nor names the
-//! plain step's mark; marks are told by the records that they stand for. A record's share is held while its cord is changed.
+//! Not here yet: cords added to a cord. No clause says why a range's cord is refused, nor names the plain step's mark; marks are told by the records
+//! that they stand for. A record's share is held while its cord is changed.
 #![tactic(auto)]
 
 mod changes;
@@ -10,6 +10,7 @@ mod copies;
 mod copying;
 mod cord;
 mod edits;
+mod externals;
 mod growing;
 mod hand;
 mod leaving;
