@@ -3,6 +3,7 @@ pub mod Says
 pub mod Counts
 pub mod EndingLaws
 pub mod Through
+pub mod Unrun
 pub mod FeedingLaws
 pub mod TellingLaws
 pub mod BoxLaws

@@ -1,5 +1,5 @@
 -- How the program ends, and what each ending says of the source, the sink and the boxes of releasers.
-use Rattle.std.specs.Prelude.{◌≡◌, ℕ, ◌+◌, ◌≤◌, List, length, codes, Option}
+use Rattle.std.specs.Prelude.{◌≡◌, ◌≢◌, ◌⊎◌, ℕ, ◌+◌, ◌≤◌, List, length, codes, Option}
 use Rattle.std.specs.List.{sum_by}
 use Rattle.std.specs.Io.KnownBytes.{Appends, IsAtEnd}
 use Rattle.plain_cord.specs.declared.script.Script.{Script}
@@ -83,6 +83,14 @@ outside left given read_faults held write_faults source source_after sink sink_a
   boxes = boxes;
   boxes_after = boxes_after;
 }
+
+-- a run ends with 0, 4 or 5: no script was run where the status is another
+abbrev pub IsUnrun : ℕ → Type 0
+IsUnrun status = (status ≢ 0) × (status ≢ 4) × (status ≢ 5)
+
+-- of the whole program: nor where the words ask for a check
+abbrev pub NothingRan : List (List ℕ) → ℕ → Type 0
+NothingRan words status = Asks words Check ⊎ IsUnrun status
 
 -- the most bytes of a script, the most bytes of a cord, and the most bytes of a cord that an answer shows
 abbrev pub LimitsStand : Type 0

@@ -4,7 +4,7 @@ ghost use Rattle.cord_port.specs.Texts.{Extends};
 ghost use Rattle.cord_port.specs.Buffers.{sink_below, kept_bytes};
 ghost use Rattle.cord_seats.specs.Boxes.{handed_in};
 ghost use Rattle.cord_sessions.specs.declared.ending.Ending.{Ending as Ending_value};
-ghost use Rattle.cord_sessions.specs.Endings.{Says, LimitsStand, outside, status_of};
+ghost use Rattle.cord_sessions.specs.Endings.{Says, LimitsStand, NothingRan, outside, status_of};
 ghost use Rattle.cord_sessions.specs.Emptying.{Empties};
 
 use crate::ending::{Ended, Ending};
@@ -38,6 +38,7 @@ pub fn run_buffered<R: Threads + Wait + Sync, S: Source, K: Sink + Drop, G: Gate
     ensures ending { (ending : Ending_value) × (result.finish.status ≡ status_of ending) × Says (map string_bytes words.now)
         (outside S.left S.given S.faults K.held K.faults source.old source.new sink result.sink
         (handed_in calls_of latest_of releasers.items) (handed_in calls_of latest_of result.finish.returned.items)) ending }
+    ensures unrun { NothingRan (map string_bytes words.now) result.finish.status → result.finish.returned ≡ releasers }
     ensures limits { LimitsStand }
 {
     serve::<R, S, K, G, Brand>(rt, alloc, words, source, sink, gate, releasers)
@@ -59,6 +60,7 @@ fn serve<R: Threads + Wait + Sync, S: Source, K: Sink + Drop, G: Gate + Sync, N:
     ensures ending { (ending : Ending_value) × (result.finish.status ≡ status_of ending) × Says (map string_bytes words.now)
         (outside S.left S.given S.faults K.held K.faults source.old source.new sink result.sink
         (handed_in calls_of latest_of releasers.items) (handed_in calls_of latest_of result.finish.returned.items)) ending }
+    ensures unrun { NothingRan (map string_bytes words.now) result.finish.status → result.finish.returned ≡ releasers }
 {
     let made: Result<BufferedSink<K, N>, K> = BufferedSink::new(alloc, sink);
     match made {

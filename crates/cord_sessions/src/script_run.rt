@@ -9,7 +9,7 @@ ghost use Rattle.script_reader.specs.Faults.{IsFirstFault};
 ghost use Rattle.script_reader.specs.Limits.{IsWithinLimits};
 ghost use Rattle.report_text.specs.Outputs.{IsPrintable, output_text, refusal_line};
 ghost use Rattle.cord_sessions.specs.declared.asked.Asked.TheVariants as asked;
-ghost use Rattle.cord_sessions.specs.Endings.{Told, check_line};
+ghost use Rattle.cord_sessions.specs.Endings.{Told, IsUnrun, check_line, status_of};
 ghost use Rattle.std.specs.Io.KnownBytes.{Appends};
 ghost use Rattle.cord_port.specs.Causes.{Rose};
 ghost use Rattle.cord_port.specs.Texts.{AppendsPart};
@@ -59,8 +59,9 @@ pub fn run_fed<R: Threads + Wait + Sync, K: Sink, G: Gate + Sync>(
     requires fed { (bytes : List ℕ) × HasGot feed bytes }
     requires boxes { length releasers.items ≤ 256 }
     requires calls { All (λ b. calls_of b < 2 ^ 64 - 1) releasers.items }
-    ensures { (bytes : List ℕ) → HasGot feed bytes → SaysOfBytes asked.Run bytes (K.held sink.old) (K.held sink.new) (K.faults sink.old) (K.faults sink.new)
+    ensures says { (bytes : List ℕ) → HasGot feed bytes → SaysOfBytes asked.Run bytes (K.held sink.old) (K.held sink.new) (K.faults sink.old) (K.faults sink.new)
         (handed_in calls_of latest_of releasers.items) (handed_in calls_of latest_of result.returned.items) result.ending }
+    ensures unrun { IsUnrun (status_of result.ending) → result.returned ≡ releasers }
 {
     let script = match finish_script(feed) {
         Ok(script) => script,

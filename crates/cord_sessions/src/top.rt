@@ -3,7 +3,7 @@ ghost use Rattle.std.specs.Prelude.{◌≡◌, ◌≤◌, ◌<◌, ◌-◌, ◌^
 ghost use Rattle.pool_rule.specs.Pools.{Handed};
 ghost use Rattle.cord_seats.specs.Boxes.{handed_in};
 ghost use Rattle.cord_sessions.specs.declared.ending.Ending.{Ending as Ending_value};
-ghost use Rattle.cord_sessions.specs.Endings.{Says, SaysOf, Told, LimitsStand, outside, status_of};
+ghost use Rattle.cord_sessions.specs.Endings.{Says, SaysOf, Told, LimitsStand, IsUnrun, NothingRan, outside, status_of};
 ghost use Rattle.cord_sessions.specs.Parts.{TellsUnread};
 ghost use Rattle.cord_sessions.specs.declared.asked.Asked.TheVariants.{Run, Check};
 
@@ -57,8 +57,9 @@ fn run_to_end<R: Threads + Wait + Sync, S: Source, K: Sink, G: Gate + Sync>(
 ) -> Ended
     requires boxes { length releasers.items ≤ 256 }
     requires calls { All (λ b. calls_of b < 2 ^ 64 - 1) releasers.items }
-    ensures { SaysOf Run (outside S.left S.given S.faults K.held K.faults source.old source.new sink.old sink.new
+    ensures says { SaysOf Run (outside S.left S.given S.faults K.held K.faults source.old source.new sink.old sink.new
         (handed_in calls_of latest_of releasers.items) (handed_in calls_of latest_of result.returned.items)) result.ending }
+    ensures unrun { IsUnrun (status_of result.ending) → result.returned ≡ releasers }
 {
     match feed_source(alloc, source) {
         Ok(feed) => run_fed(rt, alloc, feed, sink, gate, releasers),
@@ -99,8 +100,9 @@ pub fn do_asked<R: Threads + Wait + Sync, S: Source, K: Sink, G: Gate + Sync>(
 ) -> Ended
     requires boxes { length releasers.items ≤ 256 }
     requires calls { All (λ b. calls_of b < 2 ^ 64 - 1) releasers.items }
-    ensures { Says (map string_bytes words.now) (outside S.left S.given S.faults K.held K.faults source.old source.new sink.old sink.new
+    ensures says { Says (map string_bytes words.now) (outside S.left S.given S.faults K.held K.faults source.old source.new sink.old sink.new
         (handed_in calls_of latest_of releasers.items) (handed_in calls_of latest_of result.returned.items)) result.ending }
+    ensures unrun { NothingRan (map string_bytes words.now) (status_of result.ending) → result.returned ≡ releasers }
 {
     match command_of(words) {
         Some(Asked::Run) => run_to_end(rt, alloc, source, sink, gate, releasers),
@@ -123,7 +125,7 @@ pub fn do_asked<R: Threads + Wait + Sync, S: Source, K: Sink, G: Gate + Sync>(
 
 /// Does what the words ask for. `run` reads a script from the source to its end, line by line as its bytes come, runs it,
 /// and writes its text to the sink; `check` tells how much the script has. The boxes come back in their order: those that an external of
-/// the script used were called once, with its length, and the others are as they were.
+/// the script used were called once, with its length, and the others are as they were; where no script was run they are the very boxes.
 pub fn run_program<R: Threads + Wait + Sync, S: Source, K: Sink, G: Gate + Sync>(
     rt: &R,
     alloc: Global,
@@ -138,6 +140,7 @@ pub fn run_program<R: Threads + Wait + Sync, S: Source, K: Sink, G: Gate + Sync>
     ensures ending { (ending : Ending_value) × (result.status ≡ status_of ending) × Says (map string_bytes words.now)
         (outside S.left S.given S.faults K.held K.faults source.old source.new sink.old sink.new
         (handed_in calls_of latest_of releasers.items) (handed_in calls_of latest_of result.returned.items)) ending }
+    ensures unrun { NothingRan (map string_bytes words.now) result.status → result.returned ≡ releasers }
     ensures limits { LimitsStand }
 {
     let Ended { ending, returned } = do_asked(rt, alloc, words, source, sink, gate, releasers);

@@ -4,12 +4,13 @@ use Rattle.std.specs.Io.KnownBytes.{append_known}
 use Rattle.cord_port.specs.Texts.{Extends}
 use Rattle.cord_port.specs.Buffers.{sink_below, kept_bytes}
 use Rattle.pool_rule.specs.Pools.{Handed}
-use Rattle.cord_sessions.specs.Endings.{Outside, Says, outside}
+use Rattle.cord_sessions.specs.Endings.{Outside, Says, NothingRan, outside}
 use Rattle.cord_sessions.proofs.Through.{buffered, says-through}
+use Rattle.cord_sessions.proofs.Unrun.{nothing-before}
 use Rattle.cord_sessions.proofs.buffered.serve.Goals as goal
 
-pub returns-in-Ok : goal.returns-in-Ok
-returns-in-Ok g c =
+pub returns-in-Ok-clause-ending : goal.returns-in-Ok-clause-ending
+returns-in-Ok-clause-ending g c =
     let held = g.K.Sink.held in
     let faults = g.K.Sink.faults in
     let made = c.in-Ok.buffered in
@@ -30,4 +31,10 @@ returns-in-Ok g c =
     let first = subst (λ (h : Option (List ℕ)). Says words (record (seen boxes boxes_after) { held = h; write_faults = faults (sink_below made) }) ending) began said in
     let second = subst (λ (f : ℕ). Says words (record (seen boxes boxes_after) { write_faults = f }) ending) counted first in
     says-through (o boxes boxes_after) kept below (faults (sink_below after)) more words ending c.empty_buffer-ending.result.ending second c.empty_buffer-ending.ensures.empties in
-    record { ending = (c.empty_buffer-ending.result.ending, c.status.ensures, says _ _ c.do_asked-ending.ensures) }
+    (c.empty_buffer-ending.result.ending, c.status.ensures, says _ _ c.do_asked-ending.ensures.says)
+
+pub returns-in-Ok-clause-unrun : goal.returns-in-Ok-clause-unrun
+returns-in-Ok-clause-unrun g c = λ nothing.
+    let words = map string_bytes c.args.words.now in
+    c.do_asked-ending.ensures.unrun (nothing-before words c.do_asked-ending.result.ending c.empty_buffer-ending.result.ending _ _ _ _ _ c.empty_buffer-ending.ensures.empties
+    (subst (λ (n : ℕ). NothingRan words n) c.status.ensures nothing))

@@ -5,10 +5,11 @@ use Rattle.cord_sessions.specs.Causes.{AreCaused}
 use Rattle.cord_sessions.proofs.BoxLaws.{count-handed}
 use Rattle.cord_sessions.proofs.FeedingLaws.{tells}
 use Rattle.cord_sessions.proofs.RunSays.{run-says}
+use Rattle.cord_sessions.proofs.Unrun.{written-runs}
 use Rattle.cord_sessions.proofs.script_run.run_fed.Goals as goal
 
-pub returns-in-Err-Script : goal.returns-in-Err-Script
-returns-in-Err-Script g c =
+pub returns-in-Err-Script-clause-says : goal.returns-in-Err-Script-clause-says
+returns-in-Err-Script-clause-says g c =
     let fault = c.in-Err-Script.error-is in
     let field = c.in-Err-Script.field-0-is in
     let named = c.word.ensures in
@@ -21,8 +22,11 @@ returns-in-Err-Script g c =
       refl,
     )
 
-pub returns-in-Ok-run_script : goal.returns-in-Ok-run_script
-returns-in-Ok-run_script g c = λ bytes got.
+pub returns-in-Ok-run_script-clause-unrun : goal.returns-in-Ok-run_script-clause-unrun
+returns-in-Ok-run_script-clause-unrun g c = λ none. absurd (written-runs c.write_out-ending.result c.write_out-ending.ensures.ending none)
+
+pub returns-in-Ok-run_script-clause-says : goal.returns-in-Ok-run_script-clause-says
+returns-in-Ok-run_script-clause-says g c = λ bytes got.
     let script = c.in-Ok.script in
     let run = c.in-Ok-run_script.run' in
     let held = g.K.Sink.held in

@@ -7,8 +7,8 @@ use Rattle.cord_sessions.specs.Parts.{SaysOfBytes}
 use Rattle.cord_sessions.proofs.Says.{says-of-bytes, unread-says}
 use Rattle.cord_sessions.proofs.top.run_to_end.Goals as goal
 
-pub returns-in-Ok : goal.returns-in-Ok
-returns-in-Ok g c =
+pub returns-in-Ok-clause-says : goal.returns-in-Ok-clause-says
+returns-in-Ok-clause-says g c =
     let held = g.K.Sink.held in
     let faults = g.K.Sink.faults in
     let fed = c.in-Ok.ensures.fed in
@@ -23,10 +23,10 @@ returns-in-Ok g c =
       within = fed.few;
       faultless = c.in-Ok.ensures.kept (λ same. cc);
     }) said in
-    says _ _ (c.run_fed.ensures fed.bytes fed.got)
+    says _ _ (c.run_fed.ensures.says fed.bytes fed.got)
 
-pub returns-in-Err : goal.returns-in-Err
-returns-in-Err g c =
+pub returns-in-Err-clause-says : goal.returns-in-Err-clause-says
+returns-in-Err-clause-says g c =
     let fed = c.in-Err.ensures in
     unread-says _ c.in-Err.refused c.tell_unread.result fed.lost (λ is. fed.long (cc)) (λ not. fed.short (λ is. not (cc))) (λ is. fed.fault (cc))
     (λ not. fed.kept (λ is. not (cc))) refl c.tell_unread.ensures
