@@ -11,7 +11,7 @@ use Rattle.plain_cord.specs.declared.history.Act.{Act}
 use Rattle.plain_cord.specs.declared.history.Act.TheVariants.{Put, Take, Peek, Swap}
 use Rattle.plain_cord.specs.declared.deed.Deed.{Deed}
 use Rattle.plain_cord.specs.States.{CordState, Environment, SameNames, empty_cord, with_name}
-use Rattle.plain_cord.specs.Outcomes.{Outcome, Meaning, Sets, Copies, Derives, Edits, Joins, Tells, Asks, Compares, OnCell, meaning, outcome_of, action_in}
+use Rattle.plain_cord.specs.Outcomes.{Outcome, Meaning, Sets, Copies, Derives, Edits, Joins, Tells, Asks, Compares, OnCell, Watches, meaning, outcome_of, action_in}
 use Rattle.plain_cord.specs.Steps.{IsOutcome, PlainStep}
 use Rattle.plain_cord.specs.Deeds.{deed}
 use Rattle.plain_cord.specs.Effects.{SessionState, Cells, held_in, apart, acting, with_own, with_given, done_or_empty, brought, effect, effect_of}
@@ -51,6 +51,7 @@ steps-meant p state command (Tells a) reply after is step = outcome-line p state
 steps-meant p state command (Asks a answer) reply after is step = outcome-line p state command _ reply after is refl (λ cells. refl) step
 steps-meant p state command (Compares a b answer) reply after is step = outcome-line p state command _ reply after is refl (λ cells. refl) step
 steps-meant p state command (OnCell act cell a) reply after is step = absurd step
+steps-meant p state command Watches reply after is step = outcome-line p state command _ reply after is refl (λ cells. refl) step
 
 pub steps-quiet : (p : ℕ) (state : SessionState) (command : Command) (reply : Reply) (after : Environment) → PlainStep state.names command after reply → StepsAlone p state (command, reply) [] (named state after)
 steps-quiet p state command reply after step = steps-meant p state command (meaning command) reply after refl step

@@ -129,6 +129,8 @@ pub data Meaning : Type 0 where
   Compares : (a b : List ℕ) (answer : List ℕ → List ℕ → Reply) → Meaning
   -- exchanges the cord of a with what lies in a cell of the board
   OnCell : (act : Act) (cell : ℕ) (a : List ℕ) → Meaning
+  -- asks the profiler, of which byte strings have none
+  Watches : Meaning
 
 abbrev pub meaning : Command → Meaning
 meaning (commands.Let a text) = Sets a (text_bytes text)
@@ -155,6 +157,9 @@ meaning (commands.Put a cell) = OnCell Put cell a
 meaning (commands.Take cell a) = OnCell Take cell a
 meaning (commands.Peek cell a) = OnCell Peek cell a
 meaning (commands.Swap a cell) = OnCell Swap cell a
+meaning commands.Snap = Watches
+meaning commands.Walk = Watches
+meaning commands.Unsnap = Watches
 
 -- None: it needs the board
 abbrev pub outcome_of : Environment → Meaning → Option Outcome
@@ -167,6 +172,7 @@ outcome_of names (Tells a) = Some (with_cord names a (λ cord. answered names (s
 outcome_of names (Asks a answer) = Some (with_cord names a (λ cord. answered names (answer cord.bytes)))
 outcome_of names (Compares a b answer) = Some (with_cord names a (λ cord. with_cord names b (λ other. answered names (answer cord.bytes other.bytes))))
 outcome_of names (OnCell act cell a) = None
+outcome_of names Watches = Some (answered names replies.None)
 
 abbrev pub outcome : Environment → Command → Option Outcome
 outcome names command = outcome_of names (meaning command)

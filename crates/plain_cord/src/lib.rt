@@ -18,7 +18,7 @@ pub use history::{Act, Entry};
 pub use items::Items;
 pub use limits::{MOST_BYTES, MOST_SHOWN};
 pub use merging::sessions_alone_make_plain_runs;
-pub use reply::{Book, NewMark, Reply};
+pub use reply::{Book, NewMark, Reply, Report};
 pub use script::{Command, Script, Session, Text};
 pub use searching::{compare_bytes, first_place};
 pub use statistics::Statistics;

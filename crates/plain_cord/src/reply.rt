@@ -1,5 +1,6 @@
 //! What a session answers to its commands.
 use crate::items::Items;
+use crate::statistics::Statistics;
 
 /// What the mark behind `ok` says of the cord that the command made or changed: nothing, its new note in the
 /// profiler's list, or that the list was full.
@@ -12,6 +13,14 @@ pub enum NewMark {
         length: u64,
     },
     Full,
+}
+
+/// What a walk tells of a record: its note, whose length is the size in the statistics, and what its tree's nodes add up to.
+#[derive(Clone, Copy, Debug, PartialEq, Eq)]
+pub struct Report {
+    pub stamp: u64,
+    pub update: u64,
+    pub statistics: Statistics,
 }
 
 /// One answer. Answers that print the same text are one variant.
@@ -46,6 +55,14 @@ pub enum Reply {
     Releasers,
     /// A node of height 12 is needed.
     Height,
+    /// The session has a snapshot.
+    HasSnapshot,
+    /// The session has no snapshot.
+    NoSnapshot,
+    /// What a walk found, the newest record first.
+    Walked { reports: Items<Report> },
+    /// A snapshot was ended, and so many records were deleted with it.
+    Ended { deleted: u64 },
     /// So many live passes were found, at least the limit.
     Cords { found: u64 },
     /// Each of the pool's numbers, so many, was found in use.

@@ -107,6 +107,12 @@ pub enum Command {
         a: Items<u8>,
         cell: u8,
     },
+    /// Begins the session's snapshot of the sampled cords' records.
+    Snap,
+    /// Reports the records that are linked.
+    Walk,
+    /// Ends the snapshot.
+    Unsnap,
 }
 
 /// A session's name and its commands, in order.

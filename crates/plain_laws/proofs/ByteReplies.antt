@@ -106,6 +106,9 @@ wants-nothing p state cells (commands.Put a cell) = wants-own state cells a (sta
 wants-nothing p state cells (commands.Take cell a) = wants-given cell (held_in cells cell)
 wants-nothing p state cells (commands.Peek cell a) = wants-given cell (held_in cells cell)
 wants-nothing p state cells (commands.Swap a cell) = wants-own state cells a (state.names a) _ (λ cord. wants-given cell (held_in cells cell))
+wants-nothing p state cells commands.Snap = tt
+wants-nothing p state cells commands.Walk = tt
+wants-nothing p state cells commands.Unsnap = tt
 
 pub byte-reply : (p : ℕ) (state : SessionState) (cells : Cells) (command : Command) (e : Effect) → PlainEffect p state cells command e → IsByteReply e.reply
 unfolding WantsNothing

@@ -11,7 +11,7 @@ use Rattle.plain_cord.specs.declared.script.Command.{Command}
 use Rattle.plain_cord.specs.declared.reply.Reply.{Reply}
 use Rattle.plain_cord.specs.declared.reply.Reply.TheVariants as replies
 use Rattle.plain_cord.specs.States.{CordState, Environment, plain, empty_cord, changed, with_name}
-use Rattle.plain_cord.specs.Outcomes.{Outcome, outcome, with_found, with_cord, keeping, edited, refused, grown, cut, Change, Clears, Grows, Cuts, Sums, edited_by, Meaning, Sets, Copies, Derives, Edits, Joins, Tells, Asks, Compares, OnCell, meaning, outcome_of}
+use Rattle.plain_cord.specs.Outcomes.{Outcome, outcome, with_found, with_cord, keeping, edited, refused, grown, cut, Change, Clears, Grows, Cuts, Sums, edited_by, Meaning, Sets, Copies, Derives, Edits, Joins, Tells, Asks, Compares, OnCell, Watches, meaning, outcome_of}
 use Rattle.plain_cord.specs.Steps.{IsOutcome, PlainRun}
 use Rattle.plain_laws.specs.Targets.{target}
 use Rattle.plain_laws.specs.Sums.{IsGiving, GivesSum}
@@ -84,6 +84,7 @@ fate-outcome names (Tells a) name old found never = fate-cord names a name _ old
 fate-outcome names (Asks a answer) name old found never = fate-cord names a name _ old found (λ cord is. stayed names name old found)
 fate-outcome names (Compares a b answer) name old found never = fate-cord names a name _ old found (λ cord is. fate-cord names b name _ old found (λ other also. stayed names name old found))
 fate-outcome names (OnCell act cell a) name old found never = tt
+fate-outcome names Watches name old found never = stayed names name old found
 
 fate-step : (o : Option Outcome) (now : Environment) (reply : Reply) (name : List ℕ) (old : CordState) → FateAny old name o → IsOutcome o now reply → Fate old (now name)
 unfolding FateAny

@@ -6,7 +6,7 @@ use Rattle.std.proofs.lemmas.Bool.{cond_both}
 use Rattle.plain_cord.specs.declared.script.Command.{Command}
 use Rattle.plain_cord.specs.declared.reply.Reply.{Reply}
 use Rattle.plain_cord.specs.States.{CordState, Environment, with_name}
-use Rattle.plain_cord.specs.Outcomes.{Outcome, outcome, with_found, with_cord, Meaning, Sets, Copies, Derives, Edits, Joins, Tells, Asks, Compares, OnCell, meaning, outcome_of}
+use Rattle.plain_cord.specs.Outcomes.{Outcome, outcome, with_found, with_cord, Meaning, Sets, Copies, Derives, Edits, Joins, Tells, Asks, Compares, OnCell, Watches, meaning, outcome_of}
 use Rattle.plain_cord.specs.Steps.{IsOutcome, PlainStep}
 use Rattle.plain_laws.specs.Targets.{set_by, target}
 
@@ -35,6 +35,7 @@ leaves-outcome names (Tells a) name other = leaves-cord names a name _ (λ cord.
 leaves-outcome names (Asks a answer) name other = leaves-cord names a name _ (λ cord. refl)
 leaves-outcome names (Compares a b answer) name other = leaves-cord names a name _ (λ cord. leaves-cord names b name _ (λ second. refl))
 leaves-outcome names (OnCell act cell a) name other = tt
+leaves-outcome names Watches name other = refl
 
 leaves-step : (names : Environment) (o : Option Outcome) (now : Environment) (reply : Reply) (name : List ℕ) → LeavesName names name o → IsOutcome o now reply → now name ≡ names name
 leaves-step names None now reply name leaves step = absurd step

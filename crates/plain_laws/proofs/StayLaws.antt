@@ -9,7 +9,7 @@ use Rattle.plain_cord.specs.declared.script.Command.{Command}
 use Rattle.plain_cord.specs.declared.reply.Reply.{Reply}
 use Rattle.plain_cord.specs.declared.reply.Reply.TheVariants as replies
 use Rattle.plain_cord.specs.States.{CordState, Environment, SameNames, with_name, changed}
-use Rattle.plain_cord.specs.Outcomes.{Outcome, outcome, with_found, with_cord, keeping, edited, refused, grown, cut, answered, sum_or_none, Change, Clears, Grows, Cuts, Sums, edited_by, Meaning, Sets, Copies, Derives, Edits, Joins, Tells, Asks, Compares, OnCell, meaning, outcome_of}
+use Rattle.plain_cord.specs.Outcomes.{Outcome, outcome, with_found, with_cord, keeping, edited, refused, grown, cut, answered, sum_or_none, Change, Clears, Grows, Cuts, Sums, edited_by, Meaning, Sets, Copies, Derives, Edits, Joins, Tells, Asks, Compares, OnCell, Watches, meaning, outcome_of}
 use Rattle.plain_cord.specs.Steps.{IsOutcome, PlainStep}
 use Rattle.plain_laws.specs.Refusals.{IsRefusal}
 
@@ -66,6 +66,7 @@ stays-outcome names (Tells a) = stays-cord names a _ (λ cord found. stays-answe
 stays-outcome names (Asks a answer) = stays-cord names a _ (λ cord found. stays-answered names (answer cord.bytes))
 stays-outcome names (Compares a b answer) = stays-cord names a _ (λ cord found. stays-cord names b _ (λ other also. stays-answered names (answer cord.bytes other.bytes)))
 stays-outcome names (OnCell act cell a) = tt
+stays-outcome names Watches = stays-answered names replies.None
 
 stays-step : (names : Environment) (o : Option Outcome) (now : Environment) (reply : Reply) → StaysAny names o → IsOutcome o now reply → IsRefusal reply → SameNames now names
 stays-step names None now reply stays step refusal = absurd step

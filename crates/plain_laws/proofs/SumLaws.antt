@@ -10,7 +10,7 @@ use Rattle.plain_cord.specs.declared.script.Command.{Command}
 use Rattle.plain_cord.specs.declared.reply.Reply.{Reply}
 use Rattle.plain_cord.specs.declared.reply.Reply.TheVariants as replies
 use Rattle.plain_cord.specs.States.{CordState, Environment, plain, empty_cord, with_name}
-use Rattle.plain_cord.specs.Outcomes.{Outcome, outcome, with_found, with_cord, keeping, edited, refused, grown, cut, with_sum, Change, Clears, Grows, Cuts, Sums, edited_by, Meaning, Sets, Copies, Derives, Edits, Joins, Tells, Asks, Compares, OnCell, meaning, outcome_of}
+use Rattle.plain_cord.specs.Outcomes.{Outcome, outcome, with_found, with_cord, keeping, edited, refused, grown, cut, with_sum, Change, Clears, Grows, Cuts, Sums, edited_by, Meaning, Sets, Copies, Derives, Edits, Joins, Tells, Asks, Compares, OnCell, Watches, meaning, outcome_of}
 use Rattle.plain_cord.specs.Steps.{IsOutcome, PlainRun}
 use Rattle.plain_laws.specs.Sums.{SameBytes, IsTelling, AsksSum}
 
@@ -87,6 +87,7 @@ alike-outcome names others same (Tells a) asks = absurd (asks tt)
 alike-outcome names others same (Asks a answer) asks = alike-cord names others same a _ _ (λ bytes s t. (refl, same))
 alike-outcome names others same (Compares a b answer) asks = alike-cord names others same a _ _ (λ bytes s t. alike-cord names others same b _ _ (λ more u v. (refl, same)))
 alike-outcome names others same (OnCell act cell a) asks = tt
+alike-outcome names others same Watches asks = (refl, same)
 
 alike-step : (o p : Option Outcome) (now later : Environment) (reply answer : Reply) → AlikeAny o p → IsOutcome o now reply → IsOutcome p later answer → (reply ≡ answer) × SameBytes now later
 alike-step None p now later reply answer alike one other = absurd one

@@ -1,7 +1,7 @@
 -- The name that a command may set, and the cell that it names.
 use Rattle.std.specs.Prelude.{ℕ, List, Option, Some, None}
 use Rattle.plain_cord.specs.declared.script.Command.{Command}
-use Rattle.plain_cord.specs.Outcomes.{Meaning, Sets, Copies, Derives, Edits, Joins, Tells, Asks, Compares, OnCell, meaning}
+use Rattle.plain_cord.specs.Outcomes.{Meaning, Sets, Copies, Derives, Edits, Joins, Tells, Asks, Compares, OnCell, Watches, meaning}
 
 abbrev pub set_by : Meaning → Option (List ℕ)
 set_by (Sets a bytes) = Some a
@@ -13,6 +13,7 @@ set_by (Tells a) = None
 set_by (Asks a answer) = None
 set_by (Compares a b answer) = None
 set_by (OnCell act cell a) = Some a
+set_by Watches = None
 
 abbrev pub target : Command → Option (List ℕ)
 target command = set_by (meaning command)

@@ -22,7 +22,7 @@ pub fn other_names_and_cells_stay()
         → cell_of command ≢ Some cell → slice_get e.cells cell ≡ slice_get cells cell }
 {}
 
-/// On byte strings and cells no command is refused for want of a box, a height, a pass or a number.
+/// On byte strings and cells no command is refused for want of a box, a height, a pass or a number, and the profiler says nothing.
 pub fn byte_strings_want_nothing()
     ensures { (p : ℕ) (state : SessionState) (cells : Cells) (command : Command_value) (e : Effect) → PlainEffect p state cells command e
         → IsByteReply e.reply }

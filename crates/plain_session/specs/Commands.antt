@@ -5,7 +5,7 @@ use Rattle.plain_cord.specs.declared.script.Command.TheVariants as commands
 use Rattle.plain_cord.specs.declared.history.Act.{Act}
 use Rattle.plain_cord.specs.declared.history.Act.TheVariants.{Put, Take, Peek, Swap}
 use Rattle.plain_cord.specs.States.{Environment}
-use Rattle.plain_cord.specs.Outcomes.{Meaning, Clears, Cuts, Sums, Edits, Tells, meaning}
+use Rattle.plain_cord.specs.Outcomes.{Meaning, Clears, Cuts, Sums, Edits, Tells, Watches, meaning}
 use Rattle.plain_cord.specs.Outcomes.{OnCell as Acts}
 use Rattle.plain_cord.specs.Steps.{PlainStep}
 use Rattle.plain_session.specs.declared.session.Ran.{Ran}
@@ -27,13 +27,14 @@ abbrev pub IsOnCell : Ran → Act → ℕ → List ℕ → Type 0
 IsOnCell (Answered reply) act cell a = ⊥
 IsOnCell (OnCell does on named) act cell a = (does ≡ act) × (on ≡ cell) × (named.now ≡ a)
 
--- what takes no memory: a change that adds no bytes, and the sum of a name that was set; what is done on a cell
+-- what takes no memory: a change that adds no bytes, and the sum of a name that was set; what is done on a cell, or asks the profiler
 abbrev pub IsFreeMeaning : Environment → Meaning → Type 0
 IsFreeMeaning names (Edits a Clears) = IsSome (names a)
 IsFreeMeaning names (Edits a (Cuts n make)) = IsSome (names a)
 IsFreeMeaning names (Edits a (Sums value)) = IsSome (names a)
 IsFreeMeaning names (Tells a) = IsSome (names a)
 IsFreeMeaning names (Acts act cell a) = Unit {0}
+IsFreeMeaning names Watches = Unit {0}
 IsFreeMeaning names _ = ⊥
 
 -- and the questions that copy no bytes

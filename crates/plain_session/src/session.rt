@@ -90,6 +90,7 @@ impl<'a> Names<'a> {
             Command::Take { cell, a } => Ok(Ran::on_cell(Act::Take, *cell, a)),
             Command::Peek { cell, a } => Ok(Ran::on_cell(Act::Peek, *cell, a)),
             Command::Swap { a, cell } => Ok(Ran::on_cell(Act::Swap, *cell, a)),
+            Command::Snap | Command::Walk | Command::Unsnap => Ok(Ran::Answered(Reply::None)),
         }
     }
 
