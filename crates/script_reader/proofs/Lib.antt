@@ -4,6 +4,7 @@ pub mod WordedLaws
 pub mod SettingLaws
 pub mod Runs
 pub mod Holds
+pub mod BareLaws
 pub mod LimitLaws
 pub mod FirstFault
 pub mod WholeLaws

@@ -6,18 +6,21 @@ use Rattle.std.proofs.lemmas.List.Concat.{flat_map-cons}
 use Rattle.std.proofs.lemmas.List.Elements.{All-nil, All-cons}
 use Rattle.script_words.specs.Spelling.{IsName}
 use Rattle.plain_cord.specs.declared.script.Command.{Command}
-use Rattle.script_words.specs.Table.{Form, OfName, OfNameText, OfNameNumber, OfNameCell, OfCellName, OfTwoNames, OfSub, form_of}
+use Rattle.script_words.specs.Table.{Form, OfName, OfNameText, OfNameNumber, OfNameCell, OfCellName, OfTwoNames, OfBare, OfSub, form_of, verb_in, word_of_table}
 use Rattle.script_words.specs.Forms.{form_names, IsFormWithin}
 use Rattle.plain_cord.specs.declared.script.Session.{Session}
 use Rattle.plain_cord.specs.declared.script.Script.{Script}
+use Rattle.script_words.specs.declared.verbs.FirstWord.TheVariants as firsts
 use Rattle.script_words.specs.declared.verbs.Setting.{Setting}
 use Rattle.script_words.specs.declared.verbs.Setting.TheVariants as settings
+use Rattle.script_words.specs.declared.verbs.Verb.TheVariants as verbs
 use Rattle.script_reader.specs.declared.progress.Item.{Item}
 use Rattle.script_reader.specs.declared.progress.Item.TheVariants as items
 use Rattle.script_reader.specs.declared.fault.ReadRefused.{ReadRefused}
-use Rattle.script_reader.specs.Spelling.{SaysSetting, SaysForm, Says}
+use Rattle.script_reader.specs.Spelling.{SaysSetting, SaysForm, SpellsItem}
 use Rattle.script_reader.specs.ScriptSpelling.{SpellsLines, numbers, pool_number, passes_number, stride_number, IsGiven, session_items, script_items, Spells}
 use Rattle.script_reader.specs.Limits.{IsSoundCommand, IsSoundSession, IsWithinLimits}
+use Rattle.script_reader.proofs.BareLaws.{bare_shut}
 
 abbrev IsSoundSetting : Setting → Type 0
 IsSoundSetting (settings.Pool n) = (1 ≤ n) × (n ≤ 262144)
@@ -34,30 +37,31 @@ abbrev AreSound : List Item → Type 0
 AreSound [] = Unit {0}
 AreSound (item ∷ more) = IsSound item × AreSound more
 
-form_sound : (form : Form) (rest : Option (List ℕ)) → SaysForm rest form → AllByRecursion IsName (form_names form) × IsFormWithin form
-form_sound (OfName v a) rest h = ((h.1, tt), tt)
-form_sound (OfNameText v a text) rest h = ((h.2, tt), (h.3.long, h.3.fits))
-form_sound (OfNameNumber v a n) rest h = ((h.2, tt), h.5)
-form_sound (OfNameCell v a cell) rest h = ((h.2, tt), omega (arith, h.5))
-form_sound (OfCellName v cell a) rest h = ((h.2, tt), omega (arith, h.5))
-form_sound (OfTwoNames v a b) rest h = ((h.1, (h.2, tt)), tt)
-form_sound (OfSub a pos n b) rest h = ((h.3, (h.4, tt)), (h.5.small, h.6.small))
+form_sound : (form : Form) (word : List ℕ) (rest : Option (List ℕ)) → word_of_table word ≡ firsts.Built (verbs.Do (verb_in form)) → SaysForm rest form → AllByRecursion IsName (form_names form) × IsFormWithin form
+form_sound (OfName v a) word rest built h = ((h.1, tt), tt)
+form_sound (OfNameText v a text) word rest built h = ((h.2, tt), (h.3.long, h.3.fits))
+form_sound (OfNameNumber v a n) word rest built h = ((h.2, tt), h.5)
+form_sound (OfNameCell v a cell) word rest built h = ((h.2, tt), omega (arith, h.5))
+form_sound (OfCellName v cell a) word rest built h = ((h.2, tt), omega (arith, h.5))
+form_sound (OfTwoNames v a b) word rest built h = ((h.1, (h.2, tt)), tt)
+form_sound (OfBare v) word rest built h = absurd (bare_shut word v built)
+form_sound (OfSub a pos n b) word rest built h = ((h.3, (h.4, tt)), (h.5.small, h.6.small))
 
 setting_sound : (setting : Setting) (rest : Option (List ℕ)) → SaysSetting rest setting → IsSoundSetting setting
 setting_sound (settings.Pool n) rest h = (h.3, h.4)
 setting_sound (settings.Passes n) rest h = (h.3, h.4)
 setting_sound (settings.Stride n) rest h = h.4
 
-item_sound : (item : Item) (rest : Option (List ℕ)) → Says rest item → IsSound item
-item_sound (items.Set setting) rest h = setting_sound setting rest h
-item_sound (items.Begin name) rest h = h.1
-item_sound (items.Do command) rest h = let sound = form_sound (form_of command) rest h in record { names = sound.0; within = sound.1 }
-item_sound items.End rest h = tt
+item_sound : (line : List ℕ) (item : Item) → SpellsItem line item → IsSound item
+item_sound line (items.Set setting) h = setting_sound setting h.rest h.says
+item_sound line (items.Begin name) h = h.says.1
+item_sound line (items.Do command) h = let sound = form_sound (form_of command) h.word h.rest h.built h.says in record { names = sound.0; within = sound.1 }
+item_sound line items.End h = tt
 
 lines_sound : (lines : List (List ℕ)) (said : List Item) → SpellsLines lines said → AreSound said
 lines_sound [] said h = subst AreSound (sym h) tt
 lines_sound (l ∷ ls) said (inl h) = lines_sound ls said h.1
-lines_sound (l ∷ ls) said (inr h) = subst AreSound (sym h.2) (item_sound h.0 h.3.rest h.3.says, lines_sound ls h.1 h.4)
+lines_sound (l ∷ ls) said (inr h) = subst AreSound (sym h.2) (item_sound l h.0 h.3, lines_sound ls h.1 h.4)
 
 sound_parts : (xs ys : List Item) → AreSound (xs ++ ys) → AreSound xs × AreSound ys
 sound_parts [] ys h = (tt, h)

@@ -24,7 +24,7 @@ use Rattle.script_words.specs.Reading.{◌>>=◌}
 use Rattle.script_words.specs.Words.{cut, word_at, last_word_at, part_at, name_at, is_letter, is_name_byte, is_shown}
 use Rattle.script_words.specs.Numbers.{number_at}
 use Rattle.script_words.specs.Texts.{text_at}
-use Rattle.script_words.specs.Table.{word_of_table, least_of, most_of, least_setting, most_setting, name_command, name_text_command, name_number_command, name_cell_command, cell_name_command, two_names_command, setting_of, Form, OfName, OfNameText, OfNameNumber, OfNameCell, OfCellName, OfTwoNames, OfSub, command_of, form_of, verb_in}
+use Rattle.script_words.specs.Table.{word_of_table, least_of, most_of, least_setting, most_setting, name_command, name_text_command, name_number_command, name_cell_command, cell_name_command, two_names_command, bare_command, setting_of, Form, OfName, OfNameText, OfNameNumber, OfNameCell, OfCellName, OfTwoNames, OfBare, OfSub, command_of, form_of, verb_in}
 use Rattle.script_reader.specs.Lines.{known, verb_at, name_line, number_line, name_text_line, name_number_line, number_name_line, sub_line, two_names_line, command_at, item_at}
 use Rattle.script_words.specs.Spelling.{joined}
 use Rattle.script_reader.specs.Spelling.{setting_verb, setting_number, verb_for, SaysName, SaysNumber, SaysNameText, SaysNameNumber, SaysTwoNames, SaysNumberName, SaysSub, SaysForm, SaysSetting, Says, SpellsItem}
@@ -242,6 +242,9 @@ command_found (kinds.CellName v) rest command e =
 command_found (kinds.TwoNames v) rest command e =
     let a = bind_ok (two_names_line rest) (λ x. Ok (two_names_command v x.0 x.1)) command e in
     subst (IsSaid (kinds.TwoNames v) rest) (ok_is (two_names_command v a.0.0 a.0.1) command a.2) (said_form (OfTwoNames v a.0.0 a.0.1) rest (two_names_found rest a.0 a.1))
+command_found (kinds.Bare v) rest command e =
+    let a = if_ok (is_none rest) causes.Words (Ok (bare_command v)) command e in
+    subst (IsSaid (kinds.Bare v) rest) (ok_is (bare_command v) command a.1) (said_form (OfBare v) rest (none_is rest a.0))
 command_found kinds.Sub rest command e =
     let a = bind_ok (sub_line rest) (λ x. Ok (commands.Sub x.0 x.1 x.2 x.3)) command e in
     subst (IsSaid kinds.Sub rest) (ok_is (commands.Sub a.0.0 a.0.1 a.0.2 a.0.3) command a.2) (said_form (OfSub a.0.0 a.0.1 a.0.2 a.0.3) rest (sub_found rest a.0 a.1))
@@ -277,6 +280,7 @@ form_again (OfNameNumber v a n) rest h = rw (name_number_again 0 (most_of v) res
 form_again (OfNameCell v a cell) rest h = rw (name_number_again 0 63 rest a cell h) refl
 form_again (OfCellName v cell a) rest h = rw (number_name_again 0 63 rest cell a h) refl
 form_again (OfTwoNames v a b) rest h = rw (two_names_again rest a b h) refl
+form_again (OfBare v) rest h = rw h refl
 form_again (OfSub a pos n b) rest h = rw (sub_again rest a pos n b h) refl
 
 setting_again : (setting : Setting) (rest : Option (List ℕ)) → SaysSetting rest setting → item_at (verbs.Set (setting_verb setting)) rest ≡ Ok (items.Set setting)
@@ -308,6 +312,7 @@ form_shown (OfNameNumber v a n) rest h = some_shown rest _ h.1 (joined_shown a h
 form_shown (OfNameCell v a cell) rest h = some_shown rest _ h.1 (joined_shown a h.0 (name_shown a h.2) (number_shown h.0 cell h.3))
 form_shown (OfCellName v cell a) rest h = some_shown rest _ h.1 (joined_shown h.0 a (number_shown h.0 cell h.3) (name_shown a h.2))
 form_shown (OfTwoNames v a b) rest h = some_shown rest _ h.0 (joined_shown a b (name_shown a h.1) (name_shown b h.2))
+form_shown (OfBare v) rest h = subst RestShown (sym h) tt
 form_shown (OfSub a pos n b) rest h = some_shown rest _ h.2 (joined_shown a _ (name_shown a h.3) (joined_shown h.0 _ (number_shown h.0 pos h.5) (joined_shown h.1 b (number_shown h.1 n h.6) (name_shown b h.4))))
 
 item_shown : (item : Item) (rest : Option (List ℕ)) → Says rest item → RestShown rest

@@ -19,7 +19,7 @@ use Rattle.script_words.specs.Words.{cut, word_at, last_word_at, part_at, name_a
 use Rattle.script_words.specs.Numbers.{number_at}
 use Rattle.script_words.specs.Texts.{text_at}
 use Rattle.script_words.specs.Table.{word_of_table, least_of, most_of, least_setting, most_setting, name_command, name_text_command, name_number_command}
-use Rattle.script_words.specs.Table.{name_cell_command, cell_name_command, two_names_command, setting_of}
+use Rattle.script_words.specs.Table.{name_cell_command, cell_name_command, two_names_command, bare_command, setting_of}
 
 -- a word that is no first word has its own cause, and one that isn't built yet
 abbrev pub known : FirstWord → Option (List ℕ) → Result (Verb × Option (List ℕ)) Cause
@@ -112,6 +112,7 @@ command_at (kinds.CellName verb) rest = do
 command_at (kinds.TwoNames verb) rest = do
   x ← two_names_line rest
   Ok (two_names_command verb x.0 x.1)
+command_at (kinds.Bare verb) rest = if is_none rest then Ok (bare_command verb) else Err causes.Words
 command_at kinds.Sub rest = do
   x ← sub_line rest
   Ok (commands.Sub x.0 x.1 x.2 x.3)

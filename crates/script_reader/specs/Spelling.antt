@@ -13,7 +13,7 @@ use Rattle.script_reader.specs.declared.progress.Item.{Item}
 use Rattle.script_reader.specs.declared.progress.Item.TheVariants as items
 use Rattle.script_words.specs.Spelling.{IsName, SpellsNumber, SpellsText, joined}
 use Rattle.script_words.specs.Table.{word_of_table, least_of, most_of, least_setting, most_setting, Form, OfName, OfNameText, OfNameNumber, OfNameCell}
-use Rattle.script_words.specs.Table.{OfCellName, OfTwoNames, OfSub, form_of, verb_in}
+use Rattle.script_words.specs.Table.{OfCellName, OfTwoNames, OfBare, OfSub, form_of, verb_in}
 
 abbrev pub setting_verb : Setting → SettingVerb
 setting_verb (settings.Pool n) = setting_verbs.Pool
@@ -65,6 +65,7 @@ SaysForm rest (OfNameNumber verb a n) = SaysNameNumber 0 (most_of verb) rest a n
 SaysForm rest (OfNameCell verb a cell) = SaysNameNumber 0 63 rest a cell
 SaysForm rest (OfCellName verb cell a) = SaysNumberName 0 63 rest cell a
 SaysForm rest (OfTwoNames verb a b) = SaysTwoNames rest a b
+SaysForm rest (OfBare verb) = rest ≡ None
 SaysForm rest (OfSub a pos n b) = SaysSub rest a pos n b
 
 abbrev pub SaysSetting : Option (List ℕ) → Setting → Type 0

@@ -13,7 +13,7 @@ use Rattle.script_words.specs.declared.verbs.SettingVerb.{SettingVerb}
 use Rattle.script_words.specs.declared.verbs.FirstWord.{FirstWord}
 use Rattle.script_words.specs.declared.verbs.FirstWord.TheVariants as firsts
 use Rattle.script_words.specs.Table.{Words, found_in, or_else, first_of, setting_first, command_word, other_word, word_of_table, unbuilt_words, setting_words}
-use Rattle.script_words.specs.Table.{name_words, name_text_words, name_number_words, name_cell_words, cell_name_words, two_names_words}
+use Rattle.script_words.specs.Table.{name_words, name_text_words, name_number_words, name_cell_words, cell_name_words, two_names_words, bare_words}
 use Rattle.script_words.specs.Slots.{slot_of, do_first, firsts_by, built_words, first_words, with_slot, entry_at}
 
 -- ---- words with a slot of their own
@@ -133,14 +133,18 @@ commands_first word =
     (kind_and word kinds.TwoNames two_names_words from_name _ (other_word word)
     (kind_and word kinds.Name name_words from_put _ (other_word word)
     (kind_and word kinds.NameCell name_cell_words from_take _ (other_word word)
-    (kind_and word kinds.CellName cell_name_words from_sub _ (other_word word)
-    (sub_first (bytes_eq word (codes "sub")) _ (other_word word) (others_first word)))))))
+    (kind_and word kinds.CellName cell_name_words from_bare _ (other_word word)
+    (kind_and word kinds.Bare bare_words from_sub _ (other_word word)
+    (sub_first (bytes_eq word (codes "sub")) _ (other_word word) (others_first word))))))))
   where
     from_sub : Words FirstWord
     from_sub = (codes "sub", do_first kinds.Sub) ∷ (codes "session", firsts.Built verbs.Session) ∷ (codes "end", firsts.Built verbs.End) ∷ firsts_by (λ v. firsts.Built (verbs.Set v)) setting_words
 
+    from_bare : Words FirstWord
+    from_bare = firsts_by (λ v. do_first (kinds.Bare v)) bare_words ++ from_sub
+
     from_take : Words FirstWord
-    from_take = firsts_by (λ v. do_first (kinds.CellName v)) cell_name_words ++ from_sub
+    from_take = firsts_by (λ v. do_first (kinds.CellName v)) cell_name_words ++ from_bare
 
     from_put : Words FirstWord
     from_put = firsts_by (λ v. do_first (kinds.NameCell v)) name_cell_words ++ from_take

@@ -19,9 +19,10 @@ use Rattle.script_words.specs.declared.verbs.NameNumberVerb.TheVariants as name_
 use Rattle.script_words.specs.declared.verbs.NameCellVerb.TheVariants as name_cell_verbs
 use Rattle.script_words.specs.declared.verbs.CellNameVerb.TheVariants as cell_name_verbs
 use Rattle.script_words.specs.declared.verbs.TwoNamesVerb.TheVariants as two_names_verbs
+use Rattle.script_words.specs.declared.verbs.BareVerb.TheVariants as bare_verbs
 use Rattle.script_words.specs.declared.verbs.FirstWord.TheVariants as firsts
 use Rattle.script_words.specs.Words.{is_letter, is_name_byte}
-use Rattle.script_words.specs.Table.{Words, found_in, name_words, name_text_words, name_number_words, name_cell_words, cell_name_words, two_names_words, setting_words, setting_first, or_else, command_word, unbuilt_words, other_word, first_of, word_of_table, Form, OfName, OfNameText, OfNameNumber, OfNameCell, OfCellName, OfTwoNames, OfSub, command_of, form_of}
+use Rattle.script_words.specs.Table.{Words, found_in, name_words, name_text_words, name_number_words, name_cell_words, cell_name_words, two_names_words, bare_words, setting_words, setting_first, or_else, command_word, unbuilt_words, other_word, first_of, word_of_table, Form, OfName, OfNameText, OfNameNumber, OfNameCell, OfCellName, OfTwoNames, OfBare, OfSub, command_of, form_of}
 
 pub command_of_form : (command : Command) → command_of (form_of command) ≡ command
 command_of_form (commands.Clear a) = refl
@@ -47,6 +48,9 @@ command_of_form (commands.Copy a b) = refl
 command_of_form (commands.Join a b) = refl
 command_of_form (commands.JoinFront a b) = refl
 command_of_form (commands.Compare a b) = refl
+command_of_form commands.Snap = refl
+command_of_form commands.Walk = refl
+command_of_form commands.Unsnap = refl
 command_of_form (commands.Sub a pos n b) = refl
 
 pub form_of_command : (form : Form) → form_of (command_of form) ≡ form
@@ -73,6 +77,9 @@ form_of_command (OfTwoNames two_names_verbs.Copy a b) = refl
 form_of_command (OfTwoNames two_names_verbs.Join a b) = refl
 form_of_command (OfTwoNames two_names_verbs.JoinFront a b) = refl
 form_of_command (OfTwoNames two_names_verbs.Compare a b) = refl
+form_of_command (OfBare bare_verbs.Snap) = refl
+form_of_command (OfBare bare_verbs.Walk) = refl
+form_of_command (OfBare bare_verbs.Unsnap) = refl
 form_of_command (OfSub a pos n b) = refl
 
 -- ---- the words
@@ -120,7 +127,8 @@ command_words word verb e =
     (either_found kinds.Name (found_in name_words word) _ verb P (λ v f. words_found name_words word v refl f)
     (either_found kinds.NameCell (found_in name_cell_words word) _ verb P (λ v f. words_found name_cell_words word v refl f)
     (either_found kinds.CellName (found_in cell_name_words word) _ verb P (λ v f. words_found cell_name_words word v refl f)
-    (sub_found word verb)))))) e
+    (either_found kinds.Bare (found_in bare_words word) _ verb P (λ v f. words_found bare_words word v refl f)
+    (sub_found word verb))))))) e
 
 settings_found : (word : List ℕ) (verb : Verb) → setting_first (found_in setting_words word) ≡ firsts.Built verb → is_word word ≡ true
 settings_found word verb e = by_found (found_in setting_words word) refl e

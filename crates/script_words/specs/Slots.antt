@@ -5,7 +5,7 @@ use Rattle.script_words.specs.declared.verbs.CommandVerb.TheVariants as kinds
 use Rattle.script_words.specs.declared.verbs.Verb.TheVariants as verbs
 use Rattle.script_words.specs.declared.verbs.FirstWord.{FirstWord}
 use Rattle.script_words.specs.declared.verbs.FirstWord.TheVariants as firsts
-use Rattle.script_words.specs.Table.{Words, name_words, name_text_words, name_number_words, name_cell_words, cell_name_words, two_names_words, setting_words, unbuilt_words}
+use Rattle.script_words.specs.Table.{Words, name_words, name_text_words, name_number_words, name_cell_words, cell_name_words, two_names_words, bare_words, setting_words, unbuilt_words}
 
 -- a number below 128, by the length, the second byte and the last one
 abbrev pub slot_of : List ℕ → ℕ
@@ -26,8 +26,9 @@ built_words =
     ++ (firsts_by (λ v. do_first (kinds.Name v)) name_words
     ++ (firsts_by (λ v. do_first (kinds.NameCell v)) name_cell_words
     ++ (firsts_by (λ v. do_first (kinds.CellName v)) cell_name_words
+    ++ (firsts_by (λ v. do_first (kinds.Bare v)) bare_words
     ++ ((codes "sub", do_first kinds.Sub) ∷ (codes "session", firsts.Built verbs.Session) ∷ (codes "end", firsts.Built verbs.End)
-    ∷ firsts_by (λ v. firsts.Built (verbs.Set v)) setting_words))))))
+    ∷ firsts_by (λ v. firsts.Built (verbs.Set v)) setting_words)))))))
 
 -- all first words; where one stands twice, the first counts
 abbrev pub first_words : Words FirstWord

@@ -12,6 +12,7 @@ use Rattle.script_words.specs.declared.verbs.NameNumberVerb.{NameNumberVerb}
 use Rattle.script_words.specs.declared.verbs.NameCellVerb.{NameCellVerb}
 use Rattle.script_words.specs.declared.verbs.CellNameVerb.{CellNameVerb}
 use Rattle.script_words.specs.declared.verbs.TwoNamesVerb.{TwoNamesVerb}
+use Rattle.script_words.specs.declared.verbs.BareVerb.{BareVerb}
 use Rattle.script_words.specs.declared.verbs.CommandVerb.{CommandVerb}
 use Rattle.script_words.specs.declared.verbs.SettingVerb.{SettingVerb}
 use Rattle.script_words.specs.declared.verbs.Setting.{Setting}
@@ -22,6 +23,7 @@ use Rattle.script_words.specs.declared.verbs.NameNumberVerb.TheVariants as name_
 use Rattle.script_words.specs.declared.verbs.NameCellVerb.TheVariants as name_cell_verbs
 use Rattle.script_words.specs.declared.verbs.CellNameVerb.TheVariants as cell_name_verbs
 use Rattle.script_words.specs.declared.verbs.TwoNamesVerb.TheVariants as two_names_verbs
+use Rattle.script_words.specs.declared.verbs.BareVerb.TheVariants as bare_verbs
 use Rattle.script_words.specs.declared.verbs.CommandVerb.TheVariants as kinds
 use Rattle.script_words.specs.declared.verbs.SettingVerb.TheVariants as setting_verbs
 use Rattle.script_words.specs.declared.verbs.Verb.TheVariants as verbs
@@ -61,6 +63,9 @@ abbrev pub two_names_words : Words TwoNamesVerb
 two_names_words = (codes "copy", two_names_verbs.Copy) ∷ (codes "join", two_names_verbs.Join) ∷ (codes "joinfront", two_names_verbs.JoinFront) ∷
     (codes "compare", two_names_verbs.Compare) ∷ []
 
+abbrev pub bare_words : Words BareVerb
+bare_words = (codes "snap", bare_verbs.Snap) ∷ (codes "walk", bare_verbs.Walk) ∷ (codes "unsnap", bare_verbs.Unsnap) ∷ []
+
 -- goes on where nothing was found
 abbrev pub or_else : {V : Type 0} → Option V → Option V → Option V
 or_else None other = other
@@ -75,7 +80,8 @@ command_word word =
     (or_else (option_map kinds.Name (found_in name_words word))
     (or_else (option_map kinds.NameCell (found_in name_cell_words word))
     (or_else (option_map kinds.CellName (found_in cell_name_words word))
-    (if bytes_eq word (codes "sub") then Some kinds.Sub else None))))))
+    (or_else (option_map kinds.Bare (found_in bare_words word))
+    (if bytes_eq word (codes "sub") then Some kinds.Sub else None)))))))
 
 abbrev pub setting_words : Words SettingVerb
 setting_words = (codes "pool", setting_verbs.Pool) ∷ (codes "passes", setting_verbs.Passes) ∷ (codes "stride", setting_verbs.Stride) ∷ []
@@ -163,6 +169,11 @@ two_names_command two_names_verbs.Join a b = commands.Join a b
 two_names_command two_names_verbs.JoinFront a b = commands.JoinFront a b
 two_names_command two_names_verbs.Compare a b = commands.Compare a b
 
+abbrev pub bare_command : BareVerb → Command
+bare_command bare_verbs.Snap = commands.Snap
+bare_command bare_verbs.Walk = commands.Walk
+bare_command bare_verbs.Unsnap = commands.Unsnap
+
 abbrev pub setting_of : SettingVerb → ℕ → Setting
 setting_of setting_verbs.Pool n = settings.Pool n
 setting_of setting_verbs.Passes n = settings.Passes n
@@ -177,6 +188,7 @@ pub data Form : Type 0 where
   OfNameCell : (verb : NameCellVerb) (a : List ℕ) (cell : ℕ) → Form
   OfCellName : (verb : CellNameVerb) (cell : ℕ) (a : List ℕ) → Form
   OfTwoNames : (verb : TwoNamesVerb) (a b : List ℕ) → Form
+  OfBare : (verb : BareVerb) → Form
   OfSub : (a : List ℕ) (pos n : ℕ) (b : List ℕ) → Form
 
 -- the command of a form, and the form of a command
@@ -187,6 +199,7 @@ command_of (OfNameNumber verb a n) = name_number_command verb a n
 command_of (OfNameCell verb a cell) = name_cell_command verb a cell
 command_of (OfCellName verb cell a) = cell_name_command verb cell a
 command_of (OfTwoNames verb a b) = two_names_command verb a b
+command_of (OfBare verb) = bare_command verb
 command_of (OfSub a pos n b) = commands.Sub a pos n b
 
 abbrev pub form_of : Command → Form
@@ -213,6 +226,9 @@ form_of (commands.Copy a b) = OfTwoNames two_names_verbs.Copy a b
 form_of (commands.Join a b) = OfTwoNames two_names_verbs.Join a b
 form_of (commands.JoinFront a b) = OfTwoNames two_names_verbs.JoinFront a b
 form_of (commands.Compare a b) = OfTwoNames two_names_verbs.Compare a b
+form_of commands.Snap = OfBare bare_verbs.Snap
+form_of commands.Walk = OfBare bare_verbs.Walk
+form_of commands.Unsnap = OfBare bare_verbs.Unsnap
 form_of (commands.Sub a pos n b) = OfSub a pos n b
 
 abbrev pub verb_in : Form → CommandVerb
@@ -222,4 +238,5 @@ verb_in (OfNameNumber verb a n) = kinds.NameNumber verb
 verb_in (OfNameCell verb a cell) = kinds.NameCell verb
 verb_in (OfCellName verb cell a) = kinds.CellName verb
 verb_in (OfTwoNames verb a b) = kinds.TwoNames verb
+verb_in (OfBare verb) = kinds.Bare verb
 verb_in (OfSub a pos n b) = kinds.Sub

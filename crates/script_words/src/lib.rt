@@ -14,8 +14,8 @@ pub use lookup::find_verb;
 pub use numbers::read_number;
 pub use texts::read_text;
 pub use verbs::{
-    CellNameVerb, CommandVerb, FirstWord, NameCellVerb, NameNumberVerb, NameTextVerb, NameVerb,
-    Setting, SettingVerb, TwoNamesVerb, Verb,
+    BareVerb, CellNameVerb, CommandVerb, FirstWord, NameCellVerb, NameNumberVerb, NameTextVerb,
+    NameVerb, Setting, SettingVerb, TwoNamesVerb, Verb,
 };
 pub use words::{
     all_shown, first_part, first_word, is_name, read_name, take_last_word, take_part, take_word,

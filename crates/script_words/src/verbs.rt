@@ -1,7 +1,7 @@
 //! The first words of lines by the kinds of what stands behind them, and the command that each makes: a command is described here.
 ghost use Rattle.std.specs.Prelude.{◌≡◌, ◌≤◌};
 ghost use Rattle.script_words.specs.Table.{least_of, most_of, least_setting, most_setting, name_command, name_text_command, name_number_command};
-ghost use Rattle.script_words.specs.Table.{name_cell_command, cell_name_command, two_names_command, setting_of};
+ghost use Rattle.script_words.specs.Table.{name_cell_command, cell_name_command, two_names_command, bare_command, setting_of};
 
 use plain_cord::{Command, Items, Text};
 
@@ -58,6 +58,14 @@ pub enum TwoNamesVerb {
     Compare,
 }
 
+/// First words with nothing behind them.
+#[derive(Clone, Copy, Debug, PartialEq, Eq)]
+pub enum BareVerb {
+    Snap,
+    Walk,
+    Unsnap,
+}
+
 /// First words of commands, by the kinds of what stands behind them.
 #[derive(Clone, Copy, Debug, PartialEq, Eq)]
 pub enum CommandVerb {
@@ -67,6 +75,7 @@ pub enum CommandVerb {
     NameCell(NameCellVerb),
     CellName(CellNameVerb),
     TwoNames(TwoNamesVerb),
+    Bare(BareVerb),
     /// A name, two numbers and a name.
     Sub,
 }
@@ -208,6 +217,19 @@ impl TwoNamesVerb {
             TwoNamesVerb::Join => Command::Join { a, b },
             TwoNamesVerb::JoinFront => Command::JoinFront { a, b },
             TwoNamesVerb::Compare => Command::Compare { a, b },
+        }
+    }
+}
+
+impl BareVerb {
+    /// The command, which has no arguments.
+    pub fn command(self) -> Command
+        ensures { result ≡ bare_command self }
+    {
+        match self {
+            BareVerb::Snap => Command::Snap,
+            BareVerb::Walk => Command::Walk,
+            BareVerb::Unsnap => Command::Unsnap,
         }
     }
 }
