@@ -12,10 +12,8 @@ use Rattle.report_text.specs.Histories.{history_text, pool_line}
 use Rattle.report_text.specs.Replies.{reply_text}
 use Rattle.report_text.specs.Outputs.{reply_line, reply_lines, session_line, books_text, output_text}
 use Rattle.report_text.specs.Readable.{IsReadableReply, IsInLineReply, AreInLine, AreReadable}
-use Rattle.report_text.proofs.Runs.{run_split}
-use Rattle.report_text.proofs.QuoteLaws.{in_line}
 use Rattle.report_text.proofs.ReplyLaws.{reply_injective}
-use Rattle.report_text.proofs.LineLaws.{reply-in-line, at_end, reply-no-end}
+use Rattle.report_text.proofs.LineLaws.{reply_split, at_end, reply-no-end}
 
 line-first : (reply : Reply) (replies : List Reply) (rest : List ℕ) → reply_lines (reply ∷ replies) ++ rest ≡ reply_text reply ++ 10 ∷ (reply_lines replies ++ rest)
 line-first reply replies rest = append_assoc (reply_line reply) (reply_lines replies) rest ∙ append_assoc (reply_text reply) (10 ∷ []) (reply_lines replies ++ rest)
@@ -34,12 +32,9 @@ lines_split [] (y ∷ ys) rest others p q r o e = absurd (line-no-end y ys other
 lines_split (x ∷ xs) [] rest others p q r o e = absurd (line-no-end x xs rest others e o)
 lines_split (x ∷ xs) (y ∷ ys) rest others p q r o e =
     let texts = sym (line-first x xs rest) ∙ (e ∙ line-first y ys others) in
-    let line = run_split in_line (reply_text x) (reply_text y) (10 ∷ (reply_lines xs ++ rest)) (10 ∷ (reply_lines ys ++ others)) (reply-in-line x p.0) (reply-in-line y q.0) refl refl texts in
-    let split = lines_split xs ys rest others p.1 q.1 r o (behind line.1) in
-    (ap₂ (λ text texts. text ∷ texts) line.0 split.0, split.1)
-  where
-    behind : {xs ys : List ℕ} → 10 ∷ xs ≡ 10 ∷ ys → xs ≡ ys
-    behind e = cc
+    let first = reply_split x y (reply_lines xs ++ rest) (reply_lines ys ++ others) p.0 q.0 texts in
+    let split = lines_split xs ys rest others p.1 q.1 r o first.1 in
+    (ap₂ (λ text texts. text ∷ texts) first.0 split.0, split.1)
 
 -- the texts of a book's answers
 abbrev texts_of : Book → List (List ℕ)
@@ -87,13 +82,13 @@ texts_known sessions books others history later left rest pool p q e =
     (each-in-line books (recursion_from_All (λ book. All IsInLineReply book.replies) books p.replies)) (each-in-line others (recursion_from_All (λ book. All IsInLineReply book.replies) others q.replies)) refl refl
     (sym (append_assoc (books_text sessions books) (history_text sessions history) (pool_line left pool)) ∙ (e ∙ append_assoc (books_text sessions others) (history_text sessions later) (pool_line rest pool)))
 
--- what can be read back is one line
-reply-one-line : (reply : Reply) → IsReadableReply reply → IsInLineReply reply
-reply-one-line (replies.Unset name) p = p
-reply-one-line reply p = tt
+-- what can be read back has no newline in a name
+reply-in-line : (reply : Reply) → IsReadableReply reply → IsInLineReply reply
+reply-in-line (replies.Unset name) p = p
+reply-in-line reply p = tt
 
-pub books-one-line : (sessions : List Session) (books : List Book) → AreReadable sessions books → AreInLine sessions books
-books-one-line sessions books p = record { paired = p.paired; replies = λ k d inside i r within. reply-one-line _ (p.replies k d inside i r within) }
+pub books-in-line : (sessions : List Session) (books : List Book) → AreReadable sessions books → AreInLine sessions books
+books-in-line sessions books p = record { paired = p.paired; replies = λ k d inside i r within. reply-in-line _ (p.replies k d inside i r within) }
 
 front : {X : Type 0} {x y : X} {xs ys : List X} → x ∷ xs ≡ y ∷ ys → x ≡ y
 front e = cc
@@ -118,5 +113,5 @@ books_injective (book ∷ books) (other ∷ others) p q e =
 pub books_known : (sessions : List Session) (books others : List Book) (history later : List Entry) (left rest pool : ℕ) → AreReadable sessions books → AreReadable sessions others → output_text sessions books history left pool ≡ output_text sessions others later rest pool
     → (books ≡ others) × (history_text sessions history ++ pool_line left pool ≡ history_text sessions later ++ pool_line rest pool)
 books_known sessions books others history later left rest pool p q e =
-    let split = texts_known sessions books others history later left rest pool (books-one-line sessions books p) (books-one-line sessions others q) e in
+    let split = texts_known sessions books others history later left rest pool (books-in-line sessions books p) (books-in-line sessions others q) e in
     (books_injective books others (recursion_from_All (λ book. All IsReadableReply book.replies) books p.replies) (recursion_from_All (λ book. All IsReadableReply book.replies) others q.replies) split.0, split.1)

@@ -122,6 +122,9 @@ fine-effect p state cells (commands.Put a cell) n = fine-own p state cells a (st
 fine-effect p state cells (commands.Take cell a) n = (short-given cell (held_in cells cell), ((refl, refl), tt))
 fine-effect p state cells (commands.Peek cell a) n = (short-given cell (held_in cells cell), ((refl, refl), tt))
 fine-effect p state cells (commands.Swap a cell) n = fine-own p state cells a (state.names a) _ n.0 (λ cord. fine-swap p state cells a cell cord (held_in cells cell))
+fine-effect p state cells commands.Snap n = (tt, tt)
+fine-effect p state cells commands.Walk n = (tt, tt)
+fine-effect p state cells commands.Unsnap n = (tt, tt)
 
 -- ---- runs
 

@@ -1,5 +1,5 @@
 -- Answers are known by their text.
-use Rattle.std.proofs.Common.{◌≡◌, ◌∙◌, sym, ap, refl, ℕ, Bool, true, false, if◌then◌else◌, List, [], ◌∷◌, ◌++◌, get_or, arith, nat_eq, ◌==◌, Option, Some, None, IfSome, decimal, codes, append_assoc, append-nil, eqb-true}
+use Rattle.std.proofs.Common.{◌≡◌, ◌∙◌, sym, ap, refl, ℕ, Bool, true, false, if◌then◌else◌, List, [], ◌∷◌, ◌++◌, map, get_or, arith, nat_eq, ◌==◌, Option, Some, None, IfSome, decimal, codes, append_assoc, append-nil, eqb-true}
 use Rattle.std.proofs.lemmas.List.{append_cancel_left}
 use Rattle.std.specs.List.{AllByRecursion}
 use Rattle.std.proofs.lemmas.Fmt.{decimal_injective}
@@ -10,10 +10,12 @@ use Rattle.plain_cord.specs.declared.reply.NewMark.TheVariants.{Plain, Noted, Fu
 use Rattle.plain_cord.specs.declared.reply.Reply.{Reply}
 use Rattle.plain_cord.specs.declared.reply.Reply.TheVariants as replies
 use Rattle.report_text.specs.Quotes.{quoted_bytes}
-use Rattle.report_text.specs.Replies.{mark_text, gone_text, more_text, reply_text}
-use Rattle.report_text.specs.Readable.{IsNumber, IsByte, IsReadableMark, IsReadableReply}
+use Rattle.report_text.specs.Reports.{report_text}
+use Rattle.report_text.specs.Replies.{mark_text, gone_text, more_text, report_lines, reports_of, last_text, reply_text}
+use Rattle.report_text.specs.Readable.{IsNumber, IsByte, IsReadableMark, IsReadableReport, IsReadableReply}
 use Rattle.report_text.proofs.Runs.{stops, is_digit, decimal_split, decimal-begins, decimal-first}
 use Rattle.report_text.proofs.QuoteLaws.{quoted_split}
+use Rattle.report_text.proofs.ReportLaws.{is_past_reports, reports_split, reports_injective}
 
 -- behind two bytes that are the same
 behind-two : {a b : ℕ} {xs ys : List ℕ} → a ∷ b ∷ xs ≡ a ∷ b ∷ ys → xs ≡ ys
@@ -81,10 +83,10 @@ more-by false false m n p q f s e = decimal_injective m n p q (behind-two e)
 more_injective : (m n : ℕ) → IsNumber m → IsNumber n → more_text m ≡ more_text n → m ≡ n
 more_injective m n p q e = more-by (m == 0) (n == 0) m n p q refl refl e
 
-pub shown-text : (text : List ℕ) (more : ℕ) → reply_text (replies.Shown text more) ≡ 34 ∷ (quoted_bytes text ++ 34 ∷ more_text more)
+pub shown-text : (text : List ℕ) (more : ℕ) → last_text (replies.Shown text more) ≡ 34 ∷ (quoted_bytes text ++ 34 ∷ more_text more)
 shown-text text more = ap (λ rest. 34 ∷ rest) (append_assoc (quoted_bytes text) (34 ∷ []) (more_text more))
 
-pub position-text : (asked n : ℕ) → reply_text (replies.Position asked n) ≡ codes "! position " ++ (decimal asked ++ 32 ∷ decimal n)
+pub position-text : (asked n : ℕ) → last_text (replies.Position asked n) ≡ codes "! position " ++ (decimal asked ++ 32 ∷ decimal n)
 position-text asked n = ap (λ rest. codes "! position " ++ rest) (append_assoc (decimal asked) (32 ∷ []) (decimal n))
 
 -- the variants, counted
@@ -108,27 +110,45 @@ variant replies.Releasers = 15
 variant replies.Height = 16
 variant (replies.Cords found) = 17
 variant (replies.Pool size) = 18
+variant replies.HasSnapshot = 19
+variant replies.NoSnapshot = 20
+variant (replies.Walked reports) = 21
+variant (replies.Ended deleted) = 22
 
--- the variant of a text, by its first byte, or by its first and third, or by its first, third and fifth
+-- the variant of a last line, by its first byte and some of the third, the fourth and the sixth
 abbrev wanting_variant : ℕ → ℕ
-wanting_variant c = if c == 114 then 15 else (if c == 104 then 16 else (if c == 99 then 17 else 13))
+wanting_variant c = if c == 114 then 15 else (if c == 104 then 16 else (if c == 99 then 17 else (if c == 115 then 19 else 13)))
 
 abbrev refused_variant : ℕ → ℕ → ℕ
-refused_variant c d = if c == 117 then 10 else (if c == 110 then 11 else (if c == 112 then (if d == 111 then 18 else 12) else (if c == 101 then 14 else wanting_variant c)))
+refused_variant c d = if c == 117 then 10 else (if c == 110 then (if d == 98 then 11 else 20) else (if c == 112 then (if d == 108 then 18 else 12) else (if c == 101 then 14 else wanting_variant c)))
 
-abbrev word_variant : ℕ → ℕ → ℕ → ℕ
-word_variant b c d = if b == 111 then 0 else (if b == 115 then 2 else (if b == 110 then (if c == 110 then 3 else 9) else (if b == 34 then 4 else (if b == 108 then 5 else (if b == 101 then 6 else (if b == 103 then 7 else (if b == 121 then 8 else refused_variant c d)))))))
+abbrev told_variant : ℕ → ℕ → ℕ → ℕ
+told_variant b c d = if b == 108 then 5 else (if b == 101 then 6 else (if b == 103 then 7 else (if b == 121 then 8 else (if b == 119 then 21 else refused_variant c d))))
+
+abbrev word_variant : ℕ → ℕ → ℕ → ℕ → ℕ
+word_variant b c mark d = if b == 111 then (if is_digit mark then 22 else 0) else (if b == 115 then 2 else (if b == 110 then (if c == 110 then 3 else 9) else (if b == 34 then 4 else told_variant b c d)))
 
 abbrev variant_of : List ℕ → ℕ
-variant_of text = if is_digit (get_or text 0 0) then 1 else word_variant (get_or text 0 0) (get_or text 2 0) (get_or text 4 0)
+variant_of text = if is_digit (get_or text 0 0) then 1 else word_variant (get_or text 0 0) (get_or text 2 0) (get_or text 3 0) (get_or text 5 0)
 
 variant_of-number : (n : ℕ) → IsNumber n → variant_of (decimal n) ≡ 1
 variant_of-number n small =
     let digit : is_digit (get_or (decimal n) 0 0) ≡ true = ap (λ text. is_digit (get_or text 0 0)) (sym (append-nil (decimal n))) ∙ decimal-first n [] 0 in
-    ap (λ b. if b then 1 else word_variant (get_or (decimal n) 0 0) (get_or (decimal n) 2 0) (get_or (decimal n) 4 0)) digit
+    ap (λ b. if b then 1 else word_variant (get_or (decimal n) 0 0) (get_or (decimal n) 2 0) (get_or (decimal n) 3 0) (get_or (decimal n) 5 0)) digit
 
-variant_of-text : (reply : Reply) → IsReadableReply reply → variant_of (reply_text reply) ≡ variant reply
-variant_of-text (replies.Done new lost) p = refl
+variant_of-done : (new : NewMark) (lost : Option ℕ) → variant_of (last_text (replies.Done new lost)) ≡ 0
+variant_of-done Plain None = refl
+variant_of-done Plain (Some n) = refl
+variant_of-done (Noted stamp update n) lost = refl
+variant_of-done Full lost = refl
+
+variant_of-ended : (n : ℕ) → variant_of (last_text (replies.Ended n)) ≡ 22
+variant_of-ended n =
+    let digit : is_digit (get_or (decimal n) 0 0) ≡ true = ap (λ text. is_digit (get_or text 0 0)) (sym (append-nil (decimal n))) ∙ decimal-first n [] 0 in
+    ap (λ b. if b then 22 else 0) digit
+
+variant_of-text : (reply : Reply) → IsReadableReply reply → variant_of (last_text reply) ≡ variant reply
+variant_of-text (replies.Done new lost) p = variant_of-done new lost
 variant_of-text (replies.Number n) p = variant_of-number n p
 variant_of-text (replies.Sum n) p = refl
 variant_of-text replies.None p = refl
@@ -147,14 +167,18 @@ variant_of-text replies.Releasers p = refl
 variant_of-text replies.Height p = refl
 variant_of-text (replies.Cords found) p = refl
 variant_of-text (replies.Pool size) p = refl
+variant_of-text replies.HasSnapshot p = refl
+variant_of-text replies.NoSnapshot p = refl
+variant_of-text (replies.Walked reports) p = refl
+variant_of-text (replies.Ended deleted) p = variant_of-ended deleted
 
-same-variant : (x y : Reply) → IsReadableReply x → IsReadableReply y → reply_text x ≡ reply_text y → variant x ≡ variant y
+same-variant : (x y : Reply) → IsReadableReply x → IsReadableReply y → last_text x ≡ last_text y → variant x ≡ variant y
 same-variant x y p q e = sym (variant_of-text x p) ∙ (ap variant_of e ∙ variant_of-text y q)
 
 not-same : (m n : ℕ) → m ≡ n → nat_eq m n ≡ false → ⊥
 not-same m n e h = grind (arith, nat_tests)
 
-positions : (i j m n : ℕ) → IsNumber i → IsNumber j → IsNumber m → IsNumber n → reply_text (replies.Position i m) ≡ reply_text (replies.Position j n) → replies.Position i m ≡ replies.Position j n
+positions : (i j m n : ℕ) → IsNumber i → IsNumber j → IsNumber m → IsNumber n → last_text (replies.Position i m) ≡ last_text (replies.Position j n) → replies.Position i m ≡ replies.Position j n
 positions i j m n a b c d e =
     let texts = append_cancel_left (codes "! position ") (decimal i ++ 32 ∷ decimal m) (decimal j ++ 32 ∷ decimal n) (sym (position-text i m) ∙ (e ∙ position-text j n)) in
     let split = decimal_split i j (32 ∷ decimal m) (32 ∷ decimal n) a b refl refl texts in
@@ -162,7 +186,7 @@ positions i j m n a b c d e =
     let sizes : m ≡ n = decimal_injective m n c d (behind-one split.1) in
     cc
 
-showings : (xs ys : List ℕ) (m n : ℕ) → AllByRecursion IsByte xs → AllByRecursion IsByte ys → IsNumber m → IsNumber n → reply_text (replies.Shown xs m) ≡ reply_text (replies.Shown ys n) → replies.Shown xs m ≡ replies.Shown ys n
+showings : (xs ys : List ℕ) (m n : ℕ) → AllByRecursion IsByte xs → AllByRecursion IsByte ys → IsNumber m → IsNumber n → last_text (replies.Shown xs m) ≡ last_text (replies.Shown ys n) → replies.Shown xs m ≡ replies.Shown ys n
 showings xs ys m n a b c d e =
     let split = quoted_split xs ys (more_text m) (more_text n) a b (behind-one (sym (shown-text xs m) ∙ (e ∙ shown-text ys n))) in
     let texts : xs ≡ ys = split.0 in
@@ -175,24 +199,64 @@ dones new other gone lost same =
     let gones : gone ≡ lost = same.1 in
     cc
 
+-- with the same reports in them
+last_injective : (x y : Reply) → IsReadableReply x → IsReadableReply y → map report_text (reports_of x) ≡ map report_text (reports_of y) → last_text x ≡ last_text y → x ≡ y
+last_injective (replies.Done new gone) (replies.Done other lost) p q r e = dones new other gone lost (marks_injective new other gone lost p.0 q.0 p.1 q.1 (append_cancel_left (codes "ok") (mark_text new ++ gone_text gone) (mark_text other ++ gone_text lost) e))
+last_injective (replies.Number m) (replies.Number n) p q r e = ap (λ k. replies.Number k) (decimal_injective m n p q e)
+last_injective (replies.Sum m) (replies.Sum n) p q r e = ap (λ k. replies.Sum k) (decimal_injective m n p q (append_cancel_left (codes "sum ") (decimal m) (decimal n) e))
+last_injective replies.None replies.None p q r e = refl
+last_injective (replies.Shown xs m) (replies.Shown ys n) p q r e = showings xs ys m n (recursion_from_All IsByte xs p.0) (recursion_from_All IsByte ys q.0) p.1 q.1 e
+last_injective replies.Less replies.Less p q r e = refl
+last_injective replies.Equal replies.Equal p q r e = refl
+last_injective replies.Greater replies.Greater p q r e = refl
+last_injective replies.Yes replies.Yes p q r e = refl
+last_injective replies.No replies.No p q r e = refl
+last_injective (replies.Unset a) (replies.Unset b) p q r e = ap (λ name. replies.Unset name) (append_cancel_left (codes "! unset ") a b e)
+last_injective replies.NoBytes replies.NoBytes p q r e = refl
+last_injective (replies.Position i m) (replies.Position j n) p q r e = positions i j m n p.0 q.0 p.1 q.1 e
+last_injective (replies.Length m) (replies.Length n) p q r e = ap (λ k. replies.Length k) (decimal_injective m n p q (append_cancel_left (codes "! length ") (decimal m) (decimal n) e))
+last_injective (replies.Empty m) (replies.Empty n) p q r e = ap (λ k. replies.Empty k) (decimal_injective m n p q (append_cancel_left (codes "! empty ") (decimal m) (decimal n) e))
+last_injective replies.Releasers replies.Releasers p q r e = refl
+last_injective replies.Height replies.Height p q r e = refl
+last_injective (replies.Cords m) (replies.Cords n) p q r e = ap (λ k. replies.Cords k) (decimal_injective m n p q (append_cancel_left (codes "! cords ") (decimal m) (decimal n) e))
+last_injective (replies.Pool m) (replies.Pool n) p q r e = ap (λ k. replies.Pool k) (decimal_injective m n p q (append_cancel_left (codes "! pool ") (decimal m) (decimal n) e))
+last_injective replies.HasSnapshot replies.HasSnapshot p q r e = refl
+last_injective replies.NoSnapshot replies.NoSnapshot p q r e = refl
+last_injective (replies.Walked xs) (replies.Walked ys) p q r e = ap (λ reports. replies.Walked reports) (reports_injective xs ys (recursion_from_All IsReadableReport xs p) (recursion_from_All IsReadableReport ys q) r)
+last_injective (replies.Ended m) (replies.Ended n) p q r e = ap (λ k. replies.Ended k) (decimal_injective m n p q (append_cancel_left (codes "ok ") (decimal m) (decimal n) e))
+last_injective x y p q r e = absurd (not-same (variant x) (variant y) (same-variant x y p q e) refl)
+
+-- no last line begins as a report's does
+pub last-past-reports : (reply : Reply) (rest : List ℕ) → is_past_reports (last_text reply ++ rest) ≡ true
+last-past-reports (replies.Done new lost) rest = refl
+last-past-reports (replies.Number n) rest = digit-past (get_or (decimal n ++ rest) 0 0) (decimal-first n rest 0)
+  where
+    digit-past : (b : ℕ) → is_digit b ≡ true → (if b == 114 then false else true) ≡ true
+    digit-past b digit = grind (arith, nat_tests)
+last-past-reports (replies.Sum n) rest = refl
+last-past-reports replies.None rest = refl
+last-past-reports (replies.Shown text more) rest = refl
+last-past-reports replies.Less rest = refl
+last-past-reports replies.Equal rest = refl
+last-past-reports replies.Greater rest = refl
+last-past-reports replies.Yes rest = refl
+last-past-reports replies.No rest = refl
+last-past-reports (replies.Unset name) rest = refl
+last-past-reports replies.NoBytes rest = refl
+last-past-reports (replies.Position asked n) rest = refl
+last-past-reports (replies.Length asked) rest = refl
+last-past-reports (replies.Empty cell) rest = refl
+last-past-reports replies.Releasers rest = refl
+last-past-reports replies.Height rest = refl
+last-past-reports replies.HasSnapshot rest = refl
+last-past-reports replies.NoSnapshot rest = refl
+last-past-reports (replies.Walked reports) rest = refl
+last-past-reports (replies.Ended deleted) rest = refl
+last-past-reports (replies.Cords found) rest = refl
+last-past-reports (replies.Pool size) rest = refl
+
 pub reply_injective : (x y : Reply) → IsReadableReply x → IsReadableReply y → reply_text x ≡ reply_text y → x ≡ y
-reply_injective (replies.Done new gone) (replies.Done other lost) p q e = dones new other gone lost (marks_injective new other gone lost p.0 q.0 p.1 q.1 (append_cancel_left (codes "ok") (mark_text new ++ gone_text gone) (mark_text other ++ gone_text lost) e))
-reply_injective (replies.Number m) (replies.Number n) p q e = ap (λ k. replies.Number k) (decimal_injective m n p q e)
-reply_injective (replies.Sum m) (replies.Sum n) p q e = ap (λ k. replies.Sum k) (decimal_injective m n p q (append_cancel_left (codes "sum ") (decimal m) (decimal n) e))
-reply_injective replies.None replies.None p q e = refl
-reply_injective (replies.Shown xs m) (replies.Shown ys n) p q e = showings xs ys m n (recursion_from_All IsByte xs p.0) (recursion_from_All IsByte ys q.0) p.1 q.1 e
-reply_injective replies.Less replies.Less p q e = refl
-reply_injective replies.Equal replies.Equal p q e = refl
-reply_injective replies.Greater replies.Greater p q e = refl
-reply_injective replies.Yes replies.Yes p q e = refl
-reply_injective replies.No replies.No p q e = refl
-reply_injective (replies.Unset a) (replies.Unset b) p q e = ap (λ name. replies.Unset name) (append_cancel_left (codes "! unset ") a b e)
-reply_injective replies.NoBytes replies.NoBytes p q e = refl
-reply_injective (replies.Position i m) (replies.Position j n) p q e = positions i j m n p.0 q.0 p.1 q.1 e
-reply_injective (replies.Length m) (replies.Length n) p q e = ap (λ k. replies.Length k) (decimal_injective m n p q (append_cancel_left (codes "! length ") (decimal m) (decimal n) e))
-reply_injective (replies.Empty m) (replies.Empty n) p q e = ap (λ k. replies.Empty k) (decimal_injective m n p q (append_cancel_left (codes "! empty ") (decimal m) (decimal n) e))
-reply_injective replies.Releasers replies.Releasers p q e = refl
-reply_injective replies.Height replies.Height p q e = refl
-reply_injective (replies.Cords m) (replies.Cords n) p q e = ap (λ k. replies.Cords k) (decimal_injective m n p q (append_cancel_left (codes "! cords ") (decimal m) (decimal n) e))
-reply_injective (replies.Pool m) (replies.Pool n) p q e = ap (λ k. replies.Pool k) (decimal_injective m n p q (append_cancel_left (codes "! pool ") (decimal m) (decimal n) e))
-reply_injective x y p q e = absurd (not-same (variant x) (variant y) (same-variant x y p q e) refl)
+reply_injective x y p q e =
+    let texts = sym (append_assoc (report_lines (reports_of x)) (last_text x) []) ∙ (ap (λ text. text ++ []) e ∙ append_assoc (report_lines (reports_of y)) (last_text y) []) in
+    let split = reports_split (reports_of x) (reports_of y) (last_text x ++ []) (last_text y ++ []) (last-past-reports x []) (last-past-reports y []) texts in
+    last_injective x y p q split.0 (sym (append-nil (last_text x)) ∙ (split.1 ∙ append-nil (last_text y)))

@@ -1,4 +1,5 @@
 pub mod Quotes
+pub mod Reports
 pub mod Replies
 pub mod Histories
 pub mod Outputs

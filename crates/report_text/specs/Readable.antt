@@ -4,6 +4,8 @@ use Rattle.std.specs.List.{All}
 use Rattle.plain_cord.specs.declared.script.Session.{Session}
 use Rattle.plain_cord.specs.declared.reply.NewMark.{NewMark}
 use Rattle.plain_cord.specs.declared.reply.NewMark.TheVariants.{Plain, Noted, Full}
+use Rattle.plain_cord.specs.declared.statistics.Statistics.{Statistics}
+use Rattle.plain_cord.specs.declared.reply.Report.{Report}
 use Rattle.plain_cord.specs.declared.reply.Reply.{Reply}
 use Rattle.plain_cord.specs.declared.reply.Reply.TheVariants as replies
 use Rattle.plain_cord.specs.declared.reply.Book.{Book}
@@ -22,7 +24,7 @@ IsByte b = b < 256
 abbrev pub IsInLine : ℕ → Type 0
 IsInLine b = ¬ (b ≡ 10)
 
--- an answer of one line: the name in it has no newline
+-- an answer with no newline in the name that it tells
 abbrev pub IsInLineReply : Reply → Type 0
 IsInLineReply (replies.Unset name) = All IsInLine name
 IsInLineReply _ = Unit {0}
@@ -31,6 +33,22 @@ abbrev pub IsReadableMark : NewMark → Type 0
 IsReadableMark Plain = Unit {0}
 IsReadableMark (Noted stamp update n) = IsNumber stamp × IsNumber update × IsNumber n
 IsReadableMark Full = Unit {0}
+
+pub record AreReadableStatistics (s : Statistics) : Type 0 where
+  pub size : IsNumber s.size
+  pub nodes : IsNumber s.nodes
+  pub flat : IsNumber s.flat
+  pub external : IsNumber s.external
+  pub part : IsNumber s.part
+  pub sum : IsNumber s.sum
+  pub branch : IsNumber s.branch
+  pub buckets : All IsNumber s.buckets
+  pub memory : IsNumber s.memory
+
+pub record IsReadableReport (report : Report) : Type 0 where
+  pub stamp : IsNumber report.stamp
+  pub update : IsNumber report.update
+  pub statistics : AreReadableStatistics report.statistics
 
 -- its numbers are numbers of 64 bits, what it shows is bytes, and the name in it has no newline
 abbrev pub IsReadableReply : Reply → Type 0
@@ -42,6 +60,8 @@ IsReadableReply (replies.Unset name) = All IsInLine name
 IsReadableReply (replies.Position asked n) = IsNumber asked × IsNumber n
 IsReadableReply (replies.Length asked) = IsNumber asked
 IsReadableReply (replies.Empty cell) = IsNumber cell
+IsReadableReply (replies.Walked reports) = All IsReadableReport reports
+IsReadableReply (replies.Ended deleted) = IsNumber deleted
 IsReadableReply (replies.Cords found) = IsNumber found
 IsReadableReply (replies.Pool size) = IsNumber size
 IsReadableReply _ = Unit {0}
@@ -62,7 +82,7 @@ IsInWord b = ¬ (b ≡ 32)
 abbrev pub NamesDiffer : List Session → Type 0
 NamesDiffer sessions = (p q : ℕ) → p < length sessions → q < length sessions → name_at sessions p ≡ name_at sessions q → p ≡ q
 
--- one book for each session, of answers of one line
+-- one book for each session, of answers with no newline in a name
 pub record AreInLine (sessions : List Session) (books : List Book) : Type 0 where
   pub paired : length books ≡ length sessions
   pub replies : All (λ book. All IsInLineReply book.replies) books

@@ -1,12 +1,15 @@
--- The text of an answer, and what makes a line of a text.
+-- The text of an answer, which has a line for each report in it and a last one, and what makes a line of a text.
 use Rattle.std.specs.Prelude.{ℕ, ◌≤◌, List, [], ◌∷◌, ◌++◌, length, Option, Some, None, codes, ◌==◌, if◌then◌else◌}
+use Rattle.std.specs.List.{flat_map}
 use Rattle.std.specs.Fmt.{decimal}
 use Rattle.plain_cord.specs.declared.limits.TheConstants.{MOST_SHOWN}
 use Rattle.plain_cord.specs.declared.reply.NewMark.{NewMark}
 use Rattle.plain_cord.specs.declared.reply.NewMark.TheVariants.{Plain, Noted, Full}
+use Rattle.plain_cord.specs.declared.reply.Report.{Report}
 use Rattle.plain_cord.specs.declared.reply.Reply.{Reply}
 use Rattle.plain_cord.specs.declared.reply.Reply.TheVariants as replies
 use Rattle.report_text.specs.Quotes.{quoted}
+use Rattle.report_text.specs.Reports.{report_text}
 
 -- a text as a line
 abbrev pub line_of : List ℕ → List ℕ
@@ -24,27 +27,46 @@ gone_text (Some stamp) = codes " ~" ++ decimal stamp ++ codes " gone"
 abbrev pub more_text : ℕ → List ℕ
 more_text n = if n == 0 then [] else codes " +" ++ decimal n
 
--- an answer, without its newline
+abbrev pub report_line : Report → List ℕ
+report_line report = line_of (report_text report)
+
+abbrev pub report_lines : List Report → List ℕ
+report_lines reports = flat_map report_line reports
+
+-- the reports in an answer
+abbrev pub reports_of : Reply → List Report
+reports_of (replies.Walked reports) = reports
+reports_of _ = []
+
+-- the last line of an answer, without its newline: the only one where there are no reports
+abbrev pub last_text : Reply → List ℕ
+last_text (replies.Done new gone) = codes "ok" ++ mark_text new ++ gone_text gone
+last_text (replies.Number n) = decimal n
+last_text (replies.Sum n) = codes "sum " ++ decimal n
+last_text replies.None = codes "none"
+last_text (replies.Shown text more) = quoted text ++ more_text more
+last_text replies.Less = codes "less"
+last_text replies.Equal = codes "equal"
+last_text replies.Greater = codes "greater"
+last_text replies.Yes = codes "yes"
+last_text replies.No = codes "no"
+last_text (replies.Unset name) = codes "! unset " ++ name
+last_text replies.NoBytes = codes "! no bytes"
+last_text (replies.Position asked n) = codes "! position " ++ decimal asked ++ codes " " ++ decimal n
+last_text (replies.Length asked) = codes "! length " ++ decimal asked
+last_text (replies.Empty cell) = codes "! empty " ++ decimal cell
+last_text replies.Releasers = codes "! releasers"
+last_text replies.Height = codes "! height 12"
+last_text replies.HasSnapshot = codes "! snapshot"
+last_text replies.NoSnapshot = codes "! no snapshot"
+last_text (replies.Walked reports) = codes "walked " ++ decimal (length reports)
+last_text (replies.Ended deleted) = codes "ok " ++ decimal deleted
+last_text (replies.Cords found) = codes "! cords " ++ decimal found
+last_text (replies.Pool size) = codes "! pool " ++ decimal size
+
+-- an answer, without the newline of its last line
 abbrev pub reply_text : Reply → List ℕ
-reply_text (replies.Done new gone) = codes "ok" ++ mark_text new ++ gone_text gone
-reply_text (replies.Number n) = decimal n
-reply_text (replies.Sum n) = codes "sum " ++ decimal n
-reply_text replies.None = codes "none"
-reply_text (replies.Shown text more) = quoted text ++ more_text more
-reply_text replies.Less = codes "less"
-reply_text replies.Equal = codes "equal"
-reply_text replies.Greater = codes "greater"
-reply_text replies.Yes = codes "yes"
-reply_text replies.No = codes "no"
-reply_text (replies.Unset name) = codes "! unset " ++ name
-reply_text replies.NoBytes = codes "! no bytes"
-reply_text (replies.Position asked n) = codes "! position " ++ decimal asked ++ codes " " ++ decimal n
-reply_text (replies.Length asked) = codes "! length " ++ decimal asked
-reply_text (replies.Empty cell) = codes "! empty " ++ decimal cell
-reply_text replies.Releasers = codes "! releasers"
-reply_text replies.Height = codes "! height 12"
-reply_text (replies.Cords found) = codes "! cords " ++ decimal found
-reply_text (replies.Pool size) = codes "! pool " ++ decimal size
+reply_text reply = report_lines (reports_of reply) ++ last_text reply
 
 -- what is shown and what is named is as short as a session's answers are
 abbrev pub IsShortReply : Reply → Type 0

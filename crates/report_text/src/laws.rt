@@ -26,7 +26,7 @@ pub fn different_books_print_differently()
 {}
 
 /// Different histories of the same sessions never print the same, whatever the answers in front of them are, as long as
-/// each is one line.
+/// no name in them has a newline.
 pub fn different_histories_print_differently()
     ensures { (sessions : List Session_value) (books : List Book_value) (others : List Book_value) (history : List Entry_value)
         (later : List Entry_value) (left : ℕ) (rest : ℕ) (pool : ℕ)

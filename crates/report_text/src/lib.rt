@@ -8,6 +8,7 @@ mod pool;
 mod quoting;
 mod refusing;
 mod replies;
+mod reports;
 mod summing;
 mod writing;
 

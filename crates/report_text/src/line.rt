@@ -71,4 +71,14 @@ impl Line {
         let digits = buffer.format(n);
         self.push_text(digits.as_bytes());
     }
+
+    /// A text, and a number behind it.
+    pub fn push_named_number(&mut self, text: &[u8], n: u64)
+        requires { line_length self.old + length text.now + 20 ≤ LINE }
+        ensures bytes { line_bytes self.new ≡ line_bytes self.old ++ text.now ++ decimal n }
+        ensures len { line_length self.new ≤ line_length self.old + length text.now + 20 }
+    {
+        self.push_text(text);
+        self.push_number(n);
+    }
 }

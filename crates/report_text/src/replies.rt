@@ -1,12 +1,11 @@
-//! One answer, as the text of its line.
+//! One answer: the reports in it, and the text of its last line.
 ghost use Rattle.std.specs.Prelude.{◌≡◌, ◌+◌, ◌≤◌, ◌<◌, ◌++◌, [], length};
-ghost use Rattle.std.specs.Fmt.{decimal};
-ghost use Rattle.report_text.specs.Replies.{mark_text, gone_text, more_text, reply_text, IsShortReply};
+ghost use Rattle.report_text.specs.Replies.{mark_text, gone_text, more_text, reports_of, last_text, IsShortReply};
 ghost use Rattle.report_text.specs.Lines.{line_bytes, line_length};
 
 use crate::line::{LINE, Line};
 use crate::quoting::push_quoted;
-use plain_cord::{NewMark, Reply};
+use plain_cord::{NewMark, Reply, Report};
 
 fn push_mark(line: &mut Line, mark: NewMark)
     requires { line_length line.old + 80 ≤ LINE }
@@ -54,21 +53,21 @@ fn push_more(line: &mut Line, more: u64)
     }
 }
 
-// A text, and a number behind it.
-fn push_named_number(line: &mut Line, text: &[u8], n: u64)
-    requires { line_length line.old + length text.now + 20 ≤ LINE }
-    ensures bytes { line_bytes line.new ≡ line_bytes line.old ++ text.now ++ decimal n }
-    ensures len { line_length line.new ≤ line_length line.old + length text.now + 20 }
+/// The reports in the answer.
+pub fn reports_of(reply: &Reply) -> &[Report]
+    ensures { result.now ≡ reports_of reply.now }
 {
-    line.push_text(text);
-    line.push_number(n);
+    match reply {
+        Reply::Walked { reports } => reports.as_slice(),
+        _ => &[],
+    }
 }
 
-/// The answer, without its newline, on an empty line.
-pub fn push_reply(line: &mut Line, reply: &Reply)
+/// The answer's last line, without its newline, on an empty line.
+pub fn push_last(line: &mut Line, reply: &Reply)
     requires empty { line_bytes line.old ≡ [] }
     requires short { IsShortReply reply.now }
-    ensures bytes { line_bytes line.new ≡ reply_text reply.now }
+    ensures bytes { line_bytes line.new ≡ last_text reply.now }
     ensures len { line_length line.new < LINE }
 {
     match reply {
@@ -78,7 +77,7 @@ pub fn push_reply(line: &mut Line, reply: &Reply)
             push_gone(line, *gone);
         }
         Reply::Number { value } => line.push_number(*value),
-        Reply::Sum { value } => push_named_number(line, b"sum ", *value as u64),
+        Reply::Sum { value } => line.push_named_number(b"sum ", *value as u64),
         Reply::None => line.push_text(b"none"),
         Reply::Shown { text, more } => {
             push_quoted(line, text.as_slice());
@@ -95,14 +94,18 @@ pub fn push_reply(line: &mut Line, reply: &Reply)
         }
         Reply::NoBytes => line.push_text(b"! no bytes"),
         Reply::Position { asked, size } => {
-            push_named_number(line, b"! position ", *asked);
-            push_named_number(line, b" ", *size);
+            line.push_named_number(b"! position ", *asked);
+            line.push_named_number(b" ", *size);
         }
-        Reply::Length { asked } => push_named_number(line, b"! length ", *asked),
-        Reply::Empty { cell } => push_named_number(line, b"! empty ", *cell as u64),
+        Reply::Length { asked } => line.push_named_number(b"! length ", *asked),
+        Reply::Empty { cell } => line.push_named_number(b"! empty ", *cell as u64),
         Reply::Releasers => line.push_text(b"! releasers"),
         Reply::Height => line.push_text(b"! height 12"),
-        Reply::Cords { found } => push_named_number(line, b"! cords ", *found),
-        Reply::Pool { size } => push_named_number(line, b"! pool ", *size as u64),
+        Reply::HasSnapshot => line.push_text(b"! snapshot"),
+        Reply::NoSnapshot => line.push_text(b"! no snapshot"),
+        Reply::Walked { reports } => line.push_named_number(b"walked ", reports.len() as u64),
+        Reply::Ended { deleted } => line.push_named_number(b"ok ", *deleted),
+        Reply::Cords { found } => line.push_named_number(b"! cords ", *found),
+        Reply::Pool { size } => line.push_named_number(b"! pool ", *size as u64),
     }
 }

@@ -6,7 +6,7 @@ ghost use Rattle.report_text.specs.Outputs.{IsProperEntry};
 
 use super::*;
 use cord_port::MemorySink;
-use plain_cord::{Act, Book, Entry, Items, NewMark, Reply, Script, Session};
+use plain_cord::{Act, Book, Entry, Items, NewMark, Reply, Report, Script, Session, Statistics};
 use std::alloc::{AllocError, Global};
 use std::test::Fail;
 
@@ -179,6 +179,71 @@ fn answers_have_their_texts(rt: HostRuntime) -> Result<(), Fail> {
         0\n18446744073709551615\nsum 4294967295\nnone\nsession b1\nless\nequal\ngreater\nyes\nno\n! unset x\n! no bytes\n\
         ! position 21 20\n! length 2147483648\n! empty 63\n\
         ! releasers\n! height 12\n! cords 18446744073709551615\n! pool 4294967295\nhistory 0\npool 0 of 1\n";
+    assert_eq!(rt; sink.bytes(), wanted.as_slice());
+    Ok(())
+}
+
+/// What a snapshot's commands answer: a walk of two records and one of none, the end of a snapshot, and the refusals.
+fn snapshot_answers(alloc: Global) -> Result<Items<Reply>, AllocError>
+    ensures { IfOk result (λ answers. All IsShortReply answers) }
+{
+    let newer = Report {
+        stamp: 7,
+        update: 18446744073709551615,
+        statistics: Statistics {
+            size: 4084,
+            nodes: 3,
+            flat: 2,
+            external: 0,
+            part: 0,
+            sum: 0,
+            branch: 1,
+            buckets: [1, 0, 0, 0, 0],
+            memory: 4192,
+        },
+    };
+    let older = Report {
+        stamp: 2,
+        update: 0,
+        statistics: Statistics {
+            size: 10,
+            nodes: 11,
+            flat: 12,
+            external: 13,
+            part: 14,
+            sum: 15,
+            branch: 16,
+            buckets: [21, 22, 23, 24, 25],
+            memory: 30,
+        },
+    };
+    let mut answers = Items::new(alloc);
+    add(&mut answers, Reply::NoSnapshot)?;
+    add(&mut answers, Reply::HasSnapshot)?;
+    let reports = Items::from_slice(alloc, &[newer, older])?;
+    add(&mut answers, Reply::Walked { reports })?;
+    let reports = Items::new(alloc);
+    add(&mut answers, Reply::Walked { reports })?;
+    add(&mut answers, Reply::Ended { deleted: 0 })?;
+    add(
+        &mut answers,
+        Reply::Ended {
+            deleted: 18446744073709551615,
+        },
+    )?;
+    Ok(answers)
+}
+
+#[test]
+fn walks_have_a_line_for_each_record(rt: HostRuntime) -> Result<(), Fail> {
+    let first = snapshot_answers(rt.alloc())?;
+    let second = Items::new(rt.alloc());
+    let (sink, written) = sink_after(rt.alloc(), first, second, &[], 4096, Vec::new(rt.alloc()))?;
+    assert!(rt; written);
+    let wanted = b"session a\n! no snapshot\n! snapshot\n\
+        record 7.18446744073709551615 size 4084 nodes 3 flat 2 external 0 part 0 sum 0 branch 1 buckets 1 0 0 0 0 memory 4192\n\
+        record 2.0 size 10 nodes 11 flat 12 external 13 part 14 sum 15 branch 16 buckets 21 22 23 24 25 memory 30\n\
+        walked 2\nwalked 0\nok 0\nok 18446744073709551615\nsession b1\nhistory 0\npool 0 of 1\n";
     assert_eq!(rt; sink.bytes(), wanted.as_slice());
     Ok(())
 }

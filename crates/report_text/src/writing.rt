@@ -2,14 +2,15 @@
 ghost use Rattle.std.specs.Prelude.{◌≡◌, ◌≤◌, ◌<◌, ◌∷◌, [], length};
 ghost use Rattle.std.specs.List.{All};
 ghost use Rattle.report_text.specs.Writings.{Wrote};
-ghost use Rattle.report_text.specs.Replies.{line_of, IsShortReply};
+ghost use Rattle.report_text.specs.Replies.{line_of, last_text, IsShortReply};
 ghost use Rattle.report_text.specs.Outputs.{session_line, reply_line, reply_lines, session_text, books_text, output_text, IsPrintable};
 ghost use Rattle.report_text.specs.Lines.{line_bytes, line_length};
 
 use crate::history::write_history;
 use crate::line::{LINE, Line};
 use crate::pool::write_pool;
-use crate::replies::push_reply;
+use crate::replies::{push_last, reports_of};
+use crate::reports::write_reports;
 use cord_port::{Failed, Sink, write_all};
 use plain_cord::{Book, Entry, Reply, Script, Session};
 
@@ -32,13 +33,21 @@ fn write_session_line<K: Sink>(line: &mut Line, name: &[u8], sink: &mut K) -> Re
     write_line(line, sink)
 }
 
+fn write_last<K: Sink>(line: &mut Line, reply: &Reply, sink: &mut K) -> Result<(), Failed>
+    requires { IsShortReply reply.now }
+    ensures { Wrote (K.held sink.old) (K.held sink.new) (K.faults sink.old) (K.faults sink.new) result (line_of (last_text reply.now)) }
+{
+    line.clear();
+    push_last(line, reply);
+    write_line(line, sink)
+}
+
 fn write_reply<K: Sink>(line: &mut Line, reply: &Reply, sink: &mut K) -> Result<(), Failed>
     requires { IsShortReply reply.now }
     ensures { Wrote (K.held sink.old) (K.held sink.new) (K.faults sink.old) (K.faults sink.new) result (reply_line reply.now) }
 {
-    line.clear();
-    push_reply(line, reply);
-    write_line(line, sink)
+    write_reports(line, reports_of(reply), sink)?;
+    write_last(line, reply, sink)
 }
 
 fn write_replies<K: Sink>(line: &mut Line, replies: &[Reply], sink: &mut K) -> Result<(), Failed>
