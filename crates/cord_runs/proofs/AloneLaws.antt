@@ -10,7 +10,7 @@ use Rattle.plain_cord.specs.declared.reply.Reply.TheVariants as replies
 use Rattle.plain_cord.specs.declared.script.Command.{Command}
 use Rattle.plain_cord.specs.declared.script.Command.TheVariants as commands
 use Rattle.plain_cord.specs.Deeds.{deed}
-use Rattle.plain_cord.specs.Outcomes.{Meaning, Sets, Copies, Derives, Edits, Joins, Tells, Asks, Compares, OnCell, meaning, Outcome, outcome, outcome_of, action_in}
+use Rattle.plain_cord.specs.Outcomes.{Meaning, Sets, Copies, Derives, Edits, Joins, Tells, Asks, Compares, OnCell, Watches, meaning, Outcome, outcome, outcome_of, action_in}
 use Rattle.plain_cord.specs.RunOrders.{acts_by}
 use Rattle.plain_cord.specs.States.{Environment}
 use Rattle.cord_steps.specs.Answers.{Request, Plain, External, Snap, Walk, Unsnap, Answer, Told, Cords}
@@ -33,6 +33,7 @@ has-outcome names (Joins a b make) apart = (_, refl)
 has-outcome names (Tells a) apart = (_, refl)
 has-outcome names (Asks a answer) apart = (_, refl)
 has-outcome names (Compares a b answer) apart = (_, refl)
+has-outcome names Watches apart = (_, refl)
 
 acts-apart : {R : Type 0} (request : Request) (answer : Answer R) → IsApart request → acts (request, answer) ≡ false
 acts-apart (Plain command) (Told reply) apart = ap (λ (o : Option (Act × ℕ)). acts_by o reply) apart

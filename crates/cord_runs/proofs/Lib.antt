@@ -7,3 +7,4 @@ pub mod SampleRuns
 pub mod AnswerLaws
 pub mod AloneLaws
 pub mod ScriptLaws
+pub mod WatchLaws

@@ -5,5 +5,6 @@ pub mod Runs
 pub mod Alone
 pub mod Kept
 pub mod Scripts
+pub mod Watching
 pub mod Boxes
 pub mod Samples

@@ -1,5 +1,6 @@
 //! What runs over trees promise.
 ghost use Rattle.std.specs.Prelude.{◌≡◌, ℕ, List, [], map, length, Contains, slice_index_or};
+ghost use Rattle.std.specs.List.{All};
 ghost use Rattle.plain_cord.specs.declared.deed.Deed.{Deed as Deed_value};
 ghost use Rattle.plain_cord.specs.declared.history.Entry.{Entry as Entry_value};
 ghost use Rattle.plain_cord.specs.Deeds.{empty_cells, IsLegal, of_session, entry_of};
@@ -15,6 +16,7 @@ ghost use Rattle.cord_runs.specs.Kept.{kept_sessions, kept_books, all_untold};
 ghost use Rattle.cord_runs.specs.Orders.{lines_of, run_order};
 ghost use Rattle.cord_runs.specs.Runs.{acts, lines_at, IsRun};
 ghost use Rattle.cord_runs.specs.Stamps.{stamps_in, AreDifferent};
+ghost use Rattle.cord_runs.specs.Watching.{IsWatched};
 
 use cord_steps::{
     resource_refusals_show_their_cause, runs_without_refusals_are_plain_runs,
@@ -62,6 +64,12 @@ pub fn refusals_in_runs_show_their_cause<R>()
 {
     resource_refusals_show_their_cause::<R>();
 }
+
+/// In a run each request to the profiler has one of its answers.
+pub fn the_profiler_answers_in_runs<R>()
+    ensures { (options : Options) (boxes : ℕ → ℕ) (sessions : List (List Request)) (books : List (List (Answer R))) (history : List Entry_value)
+        (p : ℕ) → IsRun options boxes sessions books history → All (λ line. IsWatched line) (lines_at sessions books p) }
+{}
 
 /// In a run whose stride is 0 no answer has a mark.
 pub fn runs_without_a_stride_have_no_marks<R>()

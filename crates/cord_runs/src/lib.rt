@@ -13,7 +13,7 @@ pub use alone::{
 pub use laws::{
     answers_follow_from_history_and_refusals, refusals_in_runs_show_their_cause,
     run_orders_have_each_line, runs_are_plain_runs, runs_without_a_stride_have_no_marks,
-    sessions_alone_make_runs,
+    sessions_alone_make_runs, the_profiler_answers_in_runs,
 };
 pub use samples::{
     kept_lines_are_those_on_byte_strings, refused_peeks_are_no_actions,

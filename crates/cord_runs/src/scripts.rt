@@ -1,8 +1,8 @@
 //! What runs of scripts over trees promise, as their books tell it.
-ghost use Rattle.std.specs.Prelude.{◌≡◌, ◌≤◌, ℕ, List, [], Some, map, Contains, slice_index_or};
+ghost use Rattle.std.specs.Prelude.{◌≡◌, ◌≤◌, ℕ, List, [], map, Contains, slice_index_or};
 ghost use Rattle.plain_cord.specs.declared.script.Script.{Script as Script_value};
 ghost use Rattle.plain_cord.specs.declared.reply.Book.{Book as Book_value};
-ghost use Rattle.plain_cord.specs.declared.reply.Reply.{Reply as Reply_value};
+ghost use Rattle.plain_cord.specs.declared.reply.Report.{Report as Report_value};
 ghost use Rattle.plain_cord.specs.declared.reply.Reply.TheVariants as replies;
 ghost use Rattle.plain_cord.specs.declared.history.Entry.{Entry as Entry_value};
 ghost use Rattle.plain_cord.specs.RunOrders.{replies_of};
@@ -16,35 +16,35 @@ ghost use Rattle.cord_runs.specs.Scripts.{options_of, requests_of, boxes_of, ans
 
 use crate::laws::{refusals_in_runs_show_their_cause, runs_are_plain_runs};
 use cord_steps::replies_tell_answers;
+use plain_cord::Report;
 
 /// In each book of a run the reply by which an answer is told tells that answer.
-pub fn answers_in_runs_are_told_by_their_replies<R>()
-    ensures { (options : Options) (boxes : ℕ → ℕ) (sessions : List (List Request)) (books : List (List (Answer R))) (history : List Entry_value)
-        (p : ℕ) (answer : Answer R) (reply : Reply_value) → IsRun options boxes sessions books history
-        → Contains (slice_index_or books p []) answer → reply_of answer ≡ Some reply → answer ≡ answer_of reply }
+pub fn answers_in_runs_are_told_by_their_replies()
+    ensures { (options : Options) (boxes : ℕ → ℕ) (sessions : List (List Request)) (books : List (List (Answer Report_value))) (history : List Entry_value)
+        (p : ℕ) (answer : Answer Report_value) → IsRun options boxes sessions books history
+        → Contains (slice_index_or books p []) answer → answer ≡ answer_of (reply_of answer) }
 {
-    replies_tell_answers::<R>();
+    replies_tell_answers();
 }
 
 /// A run over trees of a script's requests, with its options, is a run of the script: the replies by which its answers are told are
 /// the books.
 pub fn told_runs_are_tree_runs()
-    ensures { (script : Script_value) (boxes : ℕ) (books : List Book_value) (answers : List (List (Answer (Unit {0})))) (history : List Entry_value)
+    ensures { (script : Script_value) (boxes : ℕ) (books : List Book_value) (answers : List (List (Answer Report_value))) (history : List Entry_value)
         → IsRun (options_of script) (boxes_of boxes) (requests_of script) answers history
-        → map (λ rs. map reply_of rs) answers ≡ map (λ book. map (λ reply. Some reply) book.replies) books
+        → map (λ rs. map reply_of rs) answers ≡ map (λ book. book.replies) books
         → IsTreeRun script boxes books history }
 {
-    replies_tell_answers::<()>();
+    replies_tell_answers();
 }
 
-/// Without the commands that were refused for want of a height, a pass, a number or a box, and without marks, a run of a script over trees
-/// is a run on byte strings with the same history.
+/// Without the commands that were refused for want of a height, a pass, a number or a box, those of the profiler, and marks, a run of a
+/// script over trees is a run on byte strings with the same history.
 pub fn tree_runs_are_plain_runs()
     ensures { (script : Script_value) (boxes : ℕ) (books : List Book_value) (history : List Entry_value) → IsTreeRun script boxes books history
-        → IsPlainRun (kept_sessions {Report = Unit {0}} (requests_of script) (answers_in books))
-        (kept_books {Report = Unit {0}} (requests_of script) (answers_in books)) history }
+        → IsPlainRun (kept_sessions (requests_of script) (answers_in books)) (kept_books (requests_of script) (answers_in books)) history }
 {
-    runs_are_plain_runs::<()>();
+    runs_are_plain_runs::<Report>();
 }
 
 /// In each book of a script's run over trees a refusal for want of a pass tells at least as many live passes as the script allows, and one
@@ -55,5 +55,5 @@ pub fn refusals_in_tree_runs_show_their_cause()
     ensures pool { (script : Script_value) (boxes : ℕ) (books : List Book_value) (history : List Entry_value) (p : ℕ) (size : ℕ)
         → IsTreeRun script boxes books history → Contains (slice_index_or (replies_of books) p []) (replies.Pool size) → size ≡ script.pool }
 {
-    refusals_in_runs_show_their_cause::<()>();
+    refusals_in_runs_show_their_cause::<Report>();
 }

@@ -136,4 +136,7 @@ module _ (choice : Bool) (names : Names) where
   settled (commands.Compare a b) = ask-cord e a _ (λ cord. ask-cord e b _ (λ other. told e _ (bare-order _)))
   settled (commands.Starts a text) = ask-cord e a _ (λ cord. told e _ (bare-yes _))
   settled (commands.Ends a text) = ask-cord e a _ (λ cord. told e _ (bare-yes _))
+  settled commands.Snap = told e replies.None refl
+  settled commands.Walk = told e replies.None refl
+  settled commands.Unsnap = told e replies.None refl
   settled _ = tt

@@ -1,7 +1,8 @@
 //! What the plain step promises, of every session.
-ghost use Rattle.std.specs.Prelude.{◌≡◌, ◌⊎◌, ℕ, List, Some};
+ghost use Rattle.std.specs.Prelude.{◌≡◌, ◌⊎◌, ℕ, List};
 ghost use Rattle.plain_cord.specs.declared.script.Command.{Command as Command_value};
 ghost use Rattle.plain_cord.specs.declared.reply.Reply.{Reply as Reply_value};
+ghost use Rattle.plain_cord.specs.declared.reply.Report.{Report as Report_value};
 ghost use Rattle.plain_cord.specs.declared.history.Entry.{Entry as Entry_value};
 ghost use Rattle.plain_cord.specs.Deeds.{empty_cells};
 ghost use Rattle.plain_cord.specs.Effects as bytes;
@@ -74,10 +75,10 @@ pub fn steps_without_a_stride_have_no_marks<R>()
 
 /// A book's replies tell the answers of its session: different replies tell different answers, different commands are different
 /// requests, and the reply by which an answer of a step is told tells that answer.
-pub fn replies_tell_answers<R>()
-    ensures differ { (x : Reply_value) (y : Reply_value) → answer_of {Report = R} x ≡ answer_of y → x ≡ y }
+pub fn replies_tell_answers()
+    ensures differ { (x : Reply_value) (y : Reply_value) → answer_of x ≡ answer_of y → x ≡ y }
     ensures requests { (x : Command_value) (y : Command_value) → request_of x ≡ request_of y → x ≡ y }
-    ensures back { (reply : Reply_value) → reply_of (answer_of {Report = R} reply) ≡ Some reply }
-    ensures told { (options : Options) (p : ℕ) (s : Session) (cells : Cells) (request : Request) (answer : Answer R) (e : Effect) (reply : Reply_value)
-        → IsStep options p s cells request answer e → reply_of answer ≡ Some reply → answer ≡ answer_of reply }
+    ensures back { (reply : Reply_value) → reply_of (answer_of reply) ≡ reply }
+    ensures told { (options : Options) (p : ℕ) (s : Session) (cells : Cells) (request : Request) (answer : Answer Report_value) (e : Effect)
+        → IsStep options p s cells request answer e → answer ≡ answer_of (reply_of answer) }
 {}

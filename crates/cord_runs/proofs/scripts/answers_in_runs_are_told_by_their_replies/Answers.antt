@@ -3,4 +3,4 @@ use Rattle.cord_runs.proofs.ScriptLaws.{run-tells}
 use Rattle.cord_runs.proofs.scripts.answers_in_runs_are_told_by_their_replies.Goals as goal
 
 pub returns : goal.returns
-returns g c = run-tells c.replies_tell_answers.ensures.told
+returns c = run-tells c.replies_tell_answers.ensures.told

@@ -3,9 +3,9 @@ use Rattle.cord_steps.proofs.ReplyLaws.{answers-differ, requests-differ, replied
 use Rattle.cord_steps.proofs.laws.replies_tell_answers.Goals as goal
 
 pub returns : goal.returns
-returns g c = record {
-  differ = answers-differ _;
+returns c = record {
+  differ = answers-differ;
   requests = requests-differ;
-  back = replied-back _;
+  back = replied-back;
   told = replied;
 }
