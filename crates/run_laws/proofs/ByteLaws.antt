@@ -7,7 +7,7 @@ use Rattle.std.proofs.lemmas.Bool.Decides.{nat_tests}
 use Rattle.std.proofs.lemmas.List.Concat.{flat_map-cons}
 use Rattle.std.proofs.lemmas.List.Elements.{All-nil, All-cons}
 use Rattle.plain_cord.specs.declared.script.Command.{Command}
-use Rattle.script_words.specs.Table.{Form, OfName, OfNameText, OfNameNumber, OfNameCell, OfCellName, OfTwoNames, OfSub, form_of}
+use Rattle.script_words.specs.Table.{Form, OfName, OfNameText, OfNameNumber, OfNameCell, OfCellName, OfTwoNames, OfBare, OfSub, form_of}
 use Rattle.script_words.specs.Forms.{form_text}
 use Rattle.plain_cord.specs.declared.script.Session.{Session}
 use Rattle.plain_cord.specs.declared.script.Script.{Script}
@@ -54,6 +54,7 @@ form-bytes (OfNameNumber verb a n) rest h = tt
 form-bytes (OfNameCell verb a cell) rest h = tt
 form-bytes (OfCellName verb cell a) rest h = tt
 form-bytes (OfTwoNames verb a b) rest h = tt
+form-bytes (OfBare verb) rest h = tt
 form-bytes (OfSub a pos n b) rest h = tt
 
 abbrev IsByteItem : Item → Type 0

@@ -177,6 +177,9 @@ module _ (P : ℕ → Type 0) where
   fit-outcome names (commands.Take cell a) fit parts t = tt
   fit-outcome names (commands.Peek cell a) fit parts t = tt
   fit-outcome names (commands.Swap a cell) fit parts t = tt
+  fit-outcome names commands.Snap fit parts t = fit-answer names replies.None fit tt
+  fit-outcome names commands.Walk fit parts t = fit-answer names replies.None fit tt
+  fit-outcome names commands.Unsnap fit parts t = fit-answer names replies.None fit tt
 
   -- ---- effects
 

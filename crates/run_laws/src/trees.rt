@@ -7,7 +7,8 @@ ghost use Rattle.cord_runs.specs.Scripts.{IsTreeRun};
 ghost use Rattle.script_reader.specs.Limits.{IsWithinLimits};
 ghost use Rattle.report_text.specs.Outputs.{IsPrintable};
 
-use cord_runs::tree_runs_are_plain_runs;
+use cord_runs::{the_profiler_answers_in_runs, tree_runs_are_plain_runs};
+use plain_cord::Report;
 use report_text::plain_runs_are_printable;
 
 /// Every run over trees of a script within the limits can be written.
@@ -16,5 +17,6 @@ pub fn tree_runs_within_limits_are_printable()
         → IsTreeRun script boxes books history → IsPrintable script.sessions books history }
 {
     tree_runs_are_plain_runs();
+    the_profiler_answers_in_runs::<Report>();
     plain_runs_are_printable();
 }
