@@ -2,6 +2,7 @@
 use Rattle.std.specs.Prelude.{ℕ, ◌≡◌, ◌+◌, List, [], length, Some}
 use Rattle.pool_rule.specs.Gains.{SawAll}
 use Rattle.pool_rule.specs.Views.{View}
+use Rattle.plain_cord.specs.declared.reply.Report.{Report}
 use Rattle.ordered_names.specs.declared.names.Names.{Names}
 use Rattle.ordered_names.specs.Named.{named}
 use Rattle.cord_value.specs.Refusals.{IsBalanced}
@@ -17,7 +18,7 @@ use Rattle.cord_commands.specs.Views.{names_of}
 
 -- nothing walks over records here, so no walk tells of any
 abbrev pub NoReport : Type 0
-NoReport = Unit {0}
+NoReport = Report
 
 -- the options of a run in which no tree is sampled
 pub record AreFor (options : Options) (size limit : ℕ) : Type 0 where

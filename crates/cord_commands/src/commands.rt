@@ -1,10 +1,11 @@
 //! The table of commands.
-ghost use Rattle.std.specs.Prelude.{◌≡◌, ◌≤◌, length, None, IfOk, OnErr};
+ghost use Rattle.std.specs.Prelude.{◌≡◌, ◌≤◌, length, None, false, IfOk, OnErr};
 ghost use Rattle.plain_cord.specs.Outcomes.{asked_action};
 ghost use Rattle.cord_steps.specs.Answers.{Plain};
 ghost use Rattle.cord_steps.specs.Whole.{IsWithin};
 ghost use Rattle.cord_steps.specs.Replies.{request_of};
 ghost use Rattle.cord_commands.specs.Accounts.{trees_in, AddsUp, IsSteady};
+ghost use Rattle.cord_commands.specs.Asked.{is_watch};
 ghost use Rattle.cord_commands.specs.Does.{Does};
 ghost use Rattle.cord_commands.specs.Places.{Places};
 ghost use Rattle.cord_commands.specs.Slots.{external_by, SameSlots, Uses};
@@ -24,7 +25,7 @@ use ordered_names::Names;
 use plain_cord::Command;
 use std::alloc::{AllocError, Global};
 
-/// Does a command that needs no cell of the board. Its error is want of memory; the names are then as before.
+/// Does a command that needs neither a cell of the board nor the profiler. Its error is want of memory; the names are then as before.
 #[tactic(auto, using(crate::proofs::Placing::ok_any))]
 pub fn run_command<'a, P: Naming, B: Releaser>(
     alloc: Global,
@@ -36,6 +37,7 @@ pub fn run_command<'a, P: Naming, B: Releaser>(
     requires room { length w.old.holds ≤ 96 }
     requires within { IsWithin (Plain command.now) }
     requires apart { asked_action command.now ≡ None }
+    requires plain { is_watch command.now ≡ false }
     ensures even { AddsUp w.old w.new (trees_in names.old) (trees_in names.new) }
     ensures slots { SameSlots w.old w.new }
     ensures does { IfOk result (λ answer. Does P.size P.limit names.old names.new w.old w.new (request_of command.now) answer) }
@@ -45,6 +47,7 @@ pub fn run_command<'a, P: Naming, B: Releaser>(
 {
     match command {
         Command::Ext { a, text } => set_external(alloc, pool, w, names, a.as_slice(), text),
+        Command::Snap | Command::Walk | Command::Unsnap => unreachable!(),
         _ => run_own(alloc, pool, w, names, command),
     }
 }
@@ -133,6 +136,9 @@ fn run_own<'a, P: Naming, B: Releaser>(
         | Command::Put { .. }
         | Command::Take { .. }
         | Command::Peek { .. }
-        | Command::Swap { .. } => unreachable!(),
+        | Command::Swap { .. }
+        | Command::Snap
+        | Command::Walk
+        | Command::Unsnap => unreachable!(),
     }
 }

@@ -1,5 +1,5 @@
 -- Commands of a script, as those that do them on names ask for them.
-use Rattle.std.proofs.Common.{◌≡◌, ◌∙◌, sym, ap, refl, ℕ, zero, suc, ◌+◌, ◌*◌, List, length, None, arith, length-append}
+use Rattle.std.proofs.Common.{◌≡◌, ◌∙◌, sym, ap, refl, ℕ, zero, suc, ◌+◌, ◌*◌, List, length, None, false, arith, length-append}
 use Rattle.std.proofs.Math.Nat.{mul-suc}
 use Rattle.plain_cord.specs.declared.script.Command.{Command}
 use Rattle.plain_cord.specs.declared.script.Command.TheVariants as commands
@@ -8,6 +8,7 @@ use Rattle.plain_cord.specs.Texts.{repeated}
 use Rattle.script_words.specs.Forms.{IsWithin}
 use Rattle.cord_steps.specs.Answers.{Plain}
 use Rattle.cord_steps.specs.Whole as steps
+use Rattle.cord_commands.specs.Asked.{is_watch}
 
 length-repeated : (piece : List ℕ) (n : ℕ) → length (repeated piece n) ≡ length piece * n
 length-repeated piece zero = omega arith
@@ -20,6 +21,13 @@ pub within-steps : (command : Command) → IsWithin command → steps.IsWithin (
 within-steps (commands.Let a text) within = let long = length-repeated text.piece text.times in omega (arith, long, within.1)
 within-steps (commands.Ext a text) within = let long = length-repeated text.piece text.times in (omega (arith, long, within.0), omega (arith, long, within.1))
 within-steps _ within = tt
+
+-- no command of a script that was read asks the profiler
+pub unwatched : (command : Command) → IsWithin command → is_watch command ≡ false
+unwatched commands.Snap within = absurd within
+unwatched commands.Walk within = absurd within
+unwatched commands.Unsnap within = absurd within
+unwatched _ within = refl
 
 pub apart : (command : Command) → ((a : List ℕ) (cell : ℕ) → command ≡ commands.Put a cell → ⊥) → ((cell : ℕ) (a : List ℕ) → command ≡ commands.Take cell a → ⊥)
     → ((cell : ℕ) (a : List ℕ) → command ≡ commands.Peek cell a → ⊥) → ((a : List ℕ) (cell : ℕ) → command ≡ commands.Swap a cell → ⊥) → asked_action command ≡ None

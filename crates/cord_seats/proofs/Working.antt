@@ -205,6 +205,9 @@ does-advances size limit v w old new seat request answer apart does = record {
 
 -- a command that asks for nothing on the board
 pub apart-request : (command : Command) → asked_action command ≡ None → IsApart (request_of command)
+apart-request commands.Snap apart = tt
+apart-request commands.Walk apart = tt
+apart-request commands.Unsnap apart = tt
 apart-request (commands.Ext a text) apart = tt
 apart-request (commands.Put a cell) apart = cc
 apart-request (commands.Take cell a) apart = cc

@@ -1,5 +1,6 @@
 //! All sessions of a script, side by side over one pool and one board.
 ghost use Rattle.std.specs.Prelude.{◌≡◌, ◌≤◌, ◌<◌, ◌+◌, ◌-◌, ◌^◌, ℕ, [], length, map, slice_index_or, vec_capacity, true, IfOk, IfErr, All};
+ghost use Rattle.plain_cord.specs.declared.reply.Report.{Report as Report_value};
 ghost use Rattle.plain_cord.specs.declared.script.Session.{Session as Session_value};
 ghost use Rattle.node_pool.specs.Starts.{slot_count};
 ghost use Rattle.node_pool.specs.Opened.{opened_table, opened_numbers, opened_passes, opened_workers, opened_boxes};
@@ -28,7 +29,7 @@ use cord_commands::Answer;
 use cord_port::{Gate, Memory, Releaser};
 use cord_runs::sessions_alone_make_runs;
 use node_pool::{Closed, Naming, Opened, Pool, PoolRefused, Worker};
-use plain_cord::{Script, Session};
+use plain_cord::{Report, Script, Session};
 use std::alloc::Global;
 use std::marker::Brand;
 use std::sync::Wait;
@@ -175,7 +176,7 @@ fn run_named<R: Threads + Wait + Sync, P: Naming + Send + Sync, B: Releaser + Se
     requires slots { P.table.slots ≡ length P.boxes }
     ensures left { IfOk result (λ run. run.numbers_left ≡ 0) }
     ensures answered { IfOk result (λ run. AreAnswered sessions.now (map (λ rs. rs.items) run.answers.items)) }
-    ensures run { IfOk result (λ run. IsRun {Report = Unit {0}} (options_for P.size P.limit) (boxes_of (length P.boxes))
+    ensures run { IfOk result (λ run. IsRun {Report = Report_value} (options_for P.size P.limit) (boxes_of (length P.boxes))
         (map (λ session. map request_of session.commands) sessions.now) (map (λ rs. map told_by rs.items) run.answers.items) run.history.items) }
     ensures caused { IfOk result (λ run. AreShown P.size P.limit (boxes_of (length P.boxes)) (map (λ rs. rs.items) run.answers.items)) }
     ensures boxes { IfOk result (λ run. AreCalled (all_externals sessions.now (map (λ rs. rs.items) run.answers.items)) P.boxes
@@ -224,7 +225,7 @@ fn run_named<R: Threads + Wait + Sync, P: Naming + Send + Sync, B: Releaser + Se
     let history = board.finish(root);
     workers.push_reserved(own);
     let Closed { in_use, releasers } = pool.close(workers);
-    sessions_alone_make_runs::<()>();
+    sessions_alone_make_runs::<Report>();
     match all_answers(answers, all) {
         Some(answers) => Ok(Ran {
             answers,
@@ -255,7 +256,7 @@ pub fn run_over<R: Threads + Wait + Sync, B: Releaser + Send, G: Gate + Sync>(
     requires calls { All (λ b. B.calls_of b < 2 ^ 64 - 1) releasers.items }
     ensures left { IfOk result (λ run. run.numbers_left ≡ 0) }
     ensures answered { IfOk result (λ run. AreAnswered script.now.sessions (map (λ rs. rs.items) run.answers.items)) }
-    ensures run { IfOk result (λ run. IsRun {Report = Unit {0}} (options_of script.now) (boxes_of (length releasers.items)) (requests_of script.now)
+    ensures run { IfOk result (λ run. IsRun {Report = Report_value} (options_of script.now) (boxes_of (length releasers.items)) (requests_of script.now)
         (map (λ rs. map told_by rs.items) run.answers.items) run.history.items) }
     ensures caused { IfOk result (λ run. AreShown script.now.pool script.now.passes (boxes_of (length releasers.items))
         (map (λ rs. rs.items) run.answers.items)) }
@@ -291,7 +292,7 @@ pub fn run_script<R: Threads + Wait + Sync, G: Gate + Sync>(
     requires calls { All (λ b. calls_of b < 2 ^ 64 - 1) releasers.items }
     ensures left { IfOk result (λ run. run.numbers_left ≡ 0) }
     ensures answered { IfOk result (λ run. AreAnswered script.now.sessions (map (λ rs. rs.items) run.answers.items)) }
-    ensures run { IfOk result (λ run. IsRun {Report = Unit {0}} (options_of script.now) (boxes_of (length releasers.items)) (requests_of script.now)
+    ensures run { IfOk result (λ run. IsRun {Report = Report_value} (options_of script.now) (boxes_of (length releasers.items)) (requests_of script.now)
         (map (λ rs. map told_by rs.items) run.answers.items) run.history.items) }
     ensures caused { IfOk result (λ run. AreShown script.now.pool script.now.passes (boxes_of (length releasers.items))
         (map (λ rs. rs.items) run.answers.items)) }

@@ -1,7 +1,6 @@
 -- Books tell the answers of sessions on cords, and the externals that they made.
-use Rattle.std.proofs.Common.{◌≡◌, ◌∙◌, ap, refl, ℕ, List, [], ◌∷◌, ◌++◌, map, Option, Some}
+use Rattle.std.proofs.Common.{◌≡◌, ◌∙◌, ap, refl, ℕ, List, [], ◌∷◌, ◌++◌, map}
 use Rattle.plain_cord.specs.declared.reply.Book.{Book}
-use Rattle.plain_cord.specs.declared.reply.Reply.{Reply}
 use Rattle.plain_cord.specs.declared.reply.Reply.TheVariants as replies
 use Rattle.plain_cord.specs.declared.script.Command.{Command}
 use Rattle.plain_cord.specs.declared.script.Command.TheVariants as commands
@@ -15,28 +14,22 @@ use Rattle.cord_commands.specs.Slots.{external_by}
 use Rattle.cord_seats.specs.Told.{externals_by, all_externals}
 use Rattle.cord_sessions.specs.Telling.{reply_to, book_of}
 
-told-reply : (answer : Answer) → reply_of {Report = Unit {0}} (told_by answer) ≡ Some (reply_to answer)
+told-reply : (answer : Answer) → reply_of (told_by answer) ≡ reply_to answer
 told-reply (Told reply) = refl
 told-reply Releasers = refl
 told-reply Height = refl
 told-reply (Cords found) = refl
 told-reply (Pool size) = refl
 
-told-replies : (answers : List Answer)
-    → map (reply_of {Report = Unit {0}}) (map told_by answers) ≡ map (λ (reply : Reply). Some reply) (map reply_to answers)
+told-replies : (answers : List Answer) → map reply_of (map told_by answers) ≡ map reply_to answers
 told-replies [] = refl
-told-replies (answer ∷ answers) =
-    ap (λ (o : Option Reply). o ∷ map (reply_of {Report = Unit {0}}) (map told_by answers)) (told-reply answer)
-    ∙ ap (λ (os : List (Option Reply)). Some (reply_to answer) ∷ os) (told-replies answers)
+told-replies (answer ∷ answers) = λ i. told-reply answer i ∷ told-replies answers i
 
 -- of lists of answers that are seen in some way
 pub told-books : {V : Type 0} (items : V → List Answer) (all : List V)
-    → map (λ rs. map (reply_of {Report = Unit {0}}) rs) (map (λ v. map told_by (items v)) all)
-    ≡ map (λ (book : Book). map (λ (reply : Reply). Some reply) book.replies) (map (λ v. book_of (items v)) all)
+    → map (λ rs. map reply_of rs) (map (λ v. map told_by (items v)) all) ≡ map (λ (book : Book). book.replies) (map (λ v. book_of (items v)) all)
 told-books items [] = refl
-told-books items (v ∷ all) =
-    ap (λ (os : List (Option Reply)). os ∷ map (λ rs. map (reply_of {Report = Unit {0}}) rs) (map (λ w. map told_by (items w)) all)) (told-replies (items v))
-    ∙ ap (λ (oss : List (List (Option Reply))). map (λ (reply : Reply). Some reply) (map reply_to (items v)) ∷ oss) (told-books items all)
+told-books items (v ∷ all) = λ i. told-replies (items v) i ∷ told-books items all i
 
 pub told-lists : {V : Type 0} (items : V → List Answer) (all : List V) → map (λ v. book_of (items v)) all ≡ map book_of (map items all)
 told-lists items [] = refl
@@ -71,6 +64,9 @@ nothing (commands.Put a cell) = (refl, refl, (λ n. refl), λ n. refl)
 nothing (commands.Take cell a) = (refl, refl, (λ n. refl), λ n. refl)
 nothing (commands.Peek cell a) = (refl, refl, (λ n. refl), λ n. refl)
 nothing (commands.Swap a cell) = (refl, refl, (λ n. refl), λ n. refl)
+nothing commands.Snap = (refl, refl, (λ n. refl), λ n. refl)
+nothing commands.Walk = (refl, refl, (λ n. refl), λ n. refl)
+nothing commands.Unsnap = (refl, refl, (λ n. refl), λ n. refl)
 
 told-external : (command : Command) (answer : Answer) → external_of command (reply_to answer) ≡ external_by command answer
 told-external command (Told reply) = refl

@@ -21,7 +21,7 @@ ghost use Rattle.cord_sessions.specs.declared.ending.Ending.TheVariants.{Done, R
 ghost use Rattle.cord_sessions.specs.declared.asked.Asked.{Asked as Asked_value};
 ghost use Rattle.cord_sessions.specs.Asks.{Asks};
 ghost use Rattle.cord_sessions.specs.Endings.{Outside, IsRunOf, IsDone, Says, SaysOf};
-ghost use Rattle.cord_sessions.specs.Telling.{IsWant};
+ghost use Rattle.cord_sessions.specs.Telling.{IsWant, AsksProfiler, IsOfProfiler};
 
 use cord_runs::{refusals_in_tree_runs_show_their_cause, tree_runs_are_plain_runs};
 
@@ -50,15 +50,15 @@ pub fn statuses_are_exact()
 {}
 
 /// Each reply that a run prints is what plain byte strings give under the printed history, or it is a refusal for want of a box, a height, a
-/// pass or a number.
+/// pass or a number, or the profiler's.
 pub fn printed_replies_are_those_of_byte_strings()
     // The commands that weren't refused so, with their replies without marks, are a run on byte strings with the same history.
     ensures run { (o : Outside) (script : Script_value) (books : List Book_value) (history : List Entry_value) → IsRunOf o script books history
-        → IsPlainRun (kept_sessions {Report = Unit {0}} (requests_of script) (answers_in books))
-        (kept_books {Report = Unit {0}} (requests_of script) (answers_in books)) history }
-    // Each command is among them with its reply, or its reply is such a refusal.
+        → IsPlainRun (kept_sessions (requests_of script) (answers_in books)) (kept_books (requests_of script) (answers_in books)) history }
+    // Each command is among them with its reply, or its reply is such a refusal, or one of the two is the profiler's.
     ensures kept { (command : Command_value) (reply : Reply_value)
-        → (kept_line {Report = Unit {0}} (request_of command, answer_of reply) ≡ (command, unmarked reply) ∷ []) ⊎ IsWant reply }
+        → (kept_line (request_of command, answer_of reply) ≡ (command, unmarked reply) ∷ [])
+        ⊎ (IsWant reply ⊎ (AsksProfiler command ⊎ IsOfProfiler reply)) }
     // A refusal for want of a pass tells at least as many live passes as the script allows, and one for want of a number all of its pool.
     ensures cords { (o : Outside) (script : Script_value) (books : List Book_value) (history : List Entry_value) (p : ℕ) (found : ℕ)
         → IsRunOf o script books history → Contains (slice_index_or (replies_of books) p []) (replies.Cords found) → script.passes ≤ found }

@@ -6,7 +6,7 @@ use Rattle.cord_board.specs.Passes.{board_view}
 use Rattle.cord_commands.specs.Does.{Does}
 use Rattle.cord_commands.proofs.Refused.{ok-weaker}
 use Rattle.cord_seats.specs.Working.{Advances}
-use Rattle.cord_seats.proofs.Apart.{within-steps, apart}
+use Rattle.cord_seats.proofs.Apart.{within-steps, unwatched, apart}
 use Rattle.cord_seats.proofs.Counts.{even-steady, quiet-even}
 use Rattle.cord_seats.proofs.Slots.{idle-same, idle-slots, cell-uses}
 use Rattle.cord_seats.proofs.Working.{apart-request, does-advances}
@@ -44,6 +44,9 @@ run_command-requires-clause-within g c = within-steps c.args.command.now c.requi
 
 pub run_command-requires-clause-apart : goal.run_command-requires-clause-apart
 run_command-requires-clause-apart g c = apart c.args.command.now c.in_default.not-Put c.in_default.not-Take c.in_default.not-Peek c.in_default.not-Swap
+
+pub run_command-requires-clause-plain : goal.run_command-requires-clause-plain
+run_command-requires-clause-plain g c = unwatched c.args.command.now c.requires.runnable
 
 pub returns-in_default-clause-steady : goal.returns-in_default-clause-steady
 returns-in_default-clause-steady g c = quiet-even _ _ _ _ _ _ refl c.run_command.ensures.even

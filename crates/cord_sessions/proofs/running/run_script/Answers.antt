@@ -1,7 +1,6 @@
 -- The sessions of an accepted script can be run, and the books tell what they answered.
-use Rattle.std.proofs.Common.{◌∙◌, sym, ap, List, length, map, Some, Vec, Global, arith}
+use Rattle.std.proofs.Common.{◌∙◌, sym, ap, List, length, map, Vec, Global, arith}
 use Rattle.plain_cord.specs.declared.reply.Book.{Book}
-use Rattle.plain_cord.specs.declared.reply.Reply.{Reply}
 use Rattle.cord_runs.specs.Boxes.{externals_in}
 use Rattle.cord_commands.specs.declared.answer.Answer.{Answer}
 use Rattle.cord_sessions.proofs.BoxLaws.{called-back, called-same}
@@ -23,7 +22,7 @@ returns-in-Ok-books_of-clause-run g c =
     let all = c.in-Ok.ran.answers.items in
     let told = c.in-Ok-books_of.ensures in
     let same = told-books {V = Vec Answer Global} (λ v. v.items) all
-    ∙ ap (λ (books : List Book). map (λ (book : Book). map (λ (reply : Reply). Some reply) book.replies) books) (sym told) in
+    ∙ ap (λ (books : List Book). map (λ (book : Book). book.replies) books) (sym told) in
     c.told_runs_are_tree_runs.ensures c.args.script.now (length c.args.releasers.items) c.in-Ok-books_of.books.items _ c.in-Ok.ran.history.items
     c.in-Ok.ensures.run same
 
