@@ -39,7 +39,7 @@ knew_all : (g : Facts) (by : ℕ) (ps back : List TokenView) → AreTokens g by 
 knew_all g by [] back k = (tt, k)
 knew_all g by (p ∷ ps) back k =
     let h = knew_all g by ps (p ∷ back) k in
-    ((record { own = h.1.0.own; reads = h.1.0.reads; untracked = h.1.0.untracked; unlinked = h.1.0.unlinked }, h.0), h.1.1)
+    ((record { own = h.1.0.own; reads = h.1.0.reads; untracked = h.1.0.untracked; unlinked = h.1.0.unlinked; walk = h.1.0.walk }, h.0), h.1.1)
 
 -- a stamp among those that a token untracked stands there with its notes
 untracked_in : (notes : ℕ → List Noted) (live : ℕ → Bool) (stamp : ℕ) (us : List (ℕ × List Noted)) → AllUntracked notes live us → has stamp (stamps_of us) ≡ true → HasUntracked stamp (notes stamp) us
@@ -179,6 +179,7 @@ module _ {P : Type 0} where
             rest)
             (w.told stamp);
         others = others;
+        idle = λ n over. let same = f.1 in (w.ungiven n (omega arith)).1;
         slots = left g spots views w;
         left = same;
         fits = subst (λ (z : List (Share P)). Each IsShare z) (sym same) (all_shares IsShare (map at_home spots) (each_fits g spots views w));

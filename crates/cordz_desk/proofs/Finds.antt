@@ -9,7 +9,7 @@ use Rattle.turn_desk.specs.Spots.{home}
 use Rattle.cordz_core.specs.declared.slot.SlotState.{SlotState}
 use Rattle.cordz_core.specs.declared.slot.SlotState.TheVariants.{Reserved, Linked, Leaving, Queued, Clearing}
 use Rattle.cordz_core.specs.Contents.{Contents, state_of, birth_of}
-use Rattle.cordz_core.specs.History.{History, Tracked, use_of, stamp_in}
+use Rattle.cordz_core.specs.History.{History, Tracked, use_of, stamp_in, stamps_given}
 use Rattle.cordz_core.specs.Legal.{Replays, state_after, state_for, state_by}
 use Rattle.cordz_core.specs.Queue.{has}
 use Rattle.cordz_core.specs.Times.{Course, Stays, Left, Done, records, snapshots, record_in, SnapshotTimes, deleted_at}
@@ -32,7 +32,7 @@ use Rattle.record_rule.proofs.Deeds.{deed_walk, tracked_small}
 use Rattle.record_rule.proofs.Walks.{IsOut, out_of, gave}
 use Rattle.cordz_desk.specs.declared.asking.Ask.{Ask}
 use Rattle.cordz_desk.specs.declared.asking.Ask.TheVariants.{Reserve, Free, Track, Unlink, Settle, Snap, Unsnap, Head, Next}
-use Rattle.cordz_desk.specs.Asking.{IsWalked, HasSmall, IsOnceOver, IsOnce, Can, May, Performed}
+use Rattle.cordz_desk.specs.Asking.{IsWalked, HasSmall, HasStamp, IsOnceOver, IsOnce, Can, May, Performed}
 
 module _ {S : Type 0} (tree_of : S → Node) (fits : S → Type 0) where
   -- the registry at a token's turn, with all that is so besides
@@ -187,6 +187,22 @@ module _ {S : Type 0} (tree_of : S → Node) (fits : S → Type 0) where
 
   pub found_small : (d : Deed) (x y : DeskValue S) (p : TokenView) → AtTurn x p → Makes x y d → Does d p (registry_of x) (registry_of y) → HasSmall d
   found_small d x y p t m does = small_of d x y p t m does
+
+  -- a new stamp is above those given before
+  pub found_stamp : (d : Deed) (x y : DeskValue S) (p : TokenView) → AtTurn x p → Makes x y d → HasStamp d
+  found_stamp (deed.Reserve s stamp) x y p t m =
+      let h : History = history t.facts.log in
+      let is : stamp ≡ stamps_given h + 1 = m.answers h (subst (λ (z : DeskValue S). Replays h (registry_of z)) (sym t.is) t.world.replays) in
+      omega (arith, is)
+  found_stamp deed.Full x y p t m = tt
+  found_stamp (deed.Free s) x y p t m = tt
+  found_stamp (deed.Track s) x y p t m = tt
+  found_stamp (deed.Unlink s) x y p t m = tt
+  found_stamp (deed.Settle s a) x y p t m = tt
+  found_stamp (deed.Snap w) x y p t m = tt
+  found_stamp (deed.Unsnap w gone) x y p t m = tt
+  found_stamp (deed.Head a) x y p t m = tt
+  found_stamp (deed.Next s a) x y p t m = tt
 
 -- the slots that an ended snapshot lets go are different ones
 pub found_once : {S : Type 0} (tree_of : S → Node) (fits : S → Type 0) (d : Deed) (x : DeskValue S) (p : TokenView) → AtTurn tree_of fits x p → IsOnceOver d (registry_of x) → IsOnce d

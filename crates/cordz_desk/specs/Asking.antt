@@ -1,5 +1,5 @@
 -- What may be asked of a registry, and what is done then.
-use Rattle.std.specs.Prelude.{◌≡◌, ◌<◌, ◌⊎◌, ℕ, true, false, IfSome, IsSome, None}
+use Rattle.std.specs.Prelude.{◌≡◌, ◌<◌, ◌≤◌, ◌⊎◌, ℕ, true, false, IfSome, IsSome, None}
 use Rattle.cordz_core.specs.declared.slot.SlotState.{SlotState}
 use Rattle.cordz_core.specs.declared.slot.SlotState.TheVariants.{Free as IsFree, Reserved, Linked, Leaving, Queued, Clearing}
 use Rattle.cordz_core.specs.Contents.{Contents, state_of, birth_of}
@@ -63,6 +63,11 @@ HasSmall (deed.Head answer) = IfSome answer (λ s. s < 256)
 HasSmall (deed.Next t answer) = IfSome answer (λ s. s < 256)
 HasSmall (deed.Unsnap w gone) = (s : ℕ) → has s gone.items ≡ true → s < 256
 HasSmall d = Unit {0}
+
+-- the stamp that a deed's answer names: stamps begin with 1
+abbrev pub HasStamp : Deed → Type 0
+HasStamp (deed.Reserve s stamp) = 1 ≤ stamp
+HasStamp d = Unit {0}
 
 -- a deed's answer names no slot twice, over every history that the registry replays, and so at the turn
 abbrev pub IsOnceOver : Deed → Contents → Type 0

@@ -3,7 +3,7 @@ use Rattle.std.specs.Prelude.{◌≡◌, ◌≤◌, ◌<◌, ◌+◌, ◌⊎◌,
 use mathlib.Core.Option.{some}
 use lib.ListN.{get_elem?}
 use Rattle.cordz_core.specs.declared.slot.SlotState.TheVariants.{Free, Reserved, Linked}
-use Rattle.cordz_core.specs.Contents.{state_of}
+use Rattle.cordz_core.specs.Contents.{state_of, birth_of}
 use Rattle.cordz_core.specs.History.{stamp_in}
 use Rattle.cordz_core.specs.Legal.{Replays}
 use Rattle.record_rule.specs.declared.values.DeskValue.{DeskValue}
@@ -13,10 +13,10 @@ use Rattle.record_rule.specs.declared.views.DeskView.{DeskView}
 use Rattle.record_rule.specs.declared.views.DeskView.TheVariants.{Root}
 use Rattle.record_rule.specs.declared.views.Noted.{Noted}
 use Rattle.record_rule.specs.declared.views.TokenView.{TokenView}
-use Rattle.record_rule.specs.Log.{history, IsLog, of_token, unlinked_of}
+use Rattle.record_rule.specs.Log.{history, IsLog, of_token, unlinked_of, is_walking, walk_of}
 use Rattle.record_rule.specs.Notes.{AreNotes, AllRead, AllUntracked, stamps_of}
 use Rattle.record_rule.specs.Views.{token_in}
-use Rattle.record_rule.specs.World.{Facts, IsSlotIn}
+use Rattle.record_rule.specs.World.{Facts, WalksIf, IsSlotIn}
 use Rattle.cordz_desk.specs.declared.desk.CordzDesk.{CordzDesk}
 use Rattle.cordz_desk.specs.declared.share.Share.{Share}
 use Rattle.turn_desk.specs.Passes.{desk_view}
@@ -48,6 +48,7 @@ pub record Knew (g : Facts) (p : TokenView) : Type 0 where
   pub reads : AllRead g.notes p.reads
   pub untracked : AllUntracked g.notes g.live p.untracked
   pub unlinked : stamps_of p.untracked ≡ unlinked_of p.number g.log
+  pub walk : WalksIf (is_walking p.own) g.registry (history g.log) p.number (walk_of p.own)
 
 -- these notes of a stamp are among those of the tickets that were untracked
 abbrev pub HasUntracked : ℕ → List Noted → List (ℕ × List Noted) → Type 0
@@ -94,6 +95,7 @@ module _ {P : Type 0} where
     pub knew : Each (Knew facts) tokens
     pub accounted : (stamp : ℕ) → IsAccounted facts given tokens stamp
     pub others : (n : ℕ) → given ≤ n → of_token n facts.log ≡ []
+    pub idle : (n : ℕ) → given ≤ n → birth_of facts.registry n ≡ None
     pub slots : (s : ℕ) → s < 256 → IsLeft facts values s
     pub left : shares ≡ shares_of values
     pub fits : Each IsShare shares

@@ -7,7 +7,7 @@ ghost use Rattle.record_rule.specs.Log.{after_deed, made_of};
 ghost use Rattle.record_rule.specs.Steps.{Does, Leaves, Makes, registry_of};
 ghost use Rattle.record_rule.specs.Views.{done_view, token_in, most_actions, IsTokenView, HasDone};
 ghost use Rattle.record_rule.specs.declared.views.DeskView.{DeskView};
-ghost use Rattle.cordz_desk.specs.Asking.{May, IsAnswerTo, HasSmall, IsOnce};
+ghost use Rattle.cordz_desk.specs.Asking.{May, IsAnswerTo, HasSmall, HasStamp, IsOnce};
 ghost use Rattle.cordz_desk.specs.Keeps.{kept_in};
 ghost use Rattle.cordz_desk.specs.Reps.{rep_of, IsRep, FoundAt};
 ghost use Rattle.cordz_desk.specs.Shares.{tree_in, IsShare};
@@ -65,6 +65,7 @@ impl<P: Naming, D: DeskNaming> CordzDesk<P, D> {
         ensures done { HasDone (token_in (desk_view pass.old)) (token_in (desk_view pass.new)) result }
         ensures answer { IsAnswerTo ask result }
         ensures small { HasSmall result }
+        ensures first { HasStamp result }
         ensures once { IsOnce result }
     {
         let mut turn = self.parts.desk.enter(rt, pass, 0);

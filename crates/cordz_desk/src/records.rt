@@ -25,6 +25,7 @@ impl<P: Naming, D: DeskNaming> CordzDesk<P, D> {
         requires few { made_of (token_of pass.old).own < 2 ^ 34 }
         ensures reserved { IfOk result (λ r. HasDone (token_of pass.old) (token_of pass.new) (Reserve r.slot r.stamp)) }
         ensures claim { IfOk result (λ r. claim_at (token_of pass.new).claims r.slot ≡ Promised r.stamp) }
+        ensures first { IfOk result (λ r. 1 ≤ r.stamp) }
         ensures full { IfErr result (λ _. HasDone (token_of pass.old) (token_of pass.new) Full) }
         ensures in_use { IfErr result (λ e. e.in_use ≡ 256) }
     {

@@ -70,6 +70,7 @@ fn first_values<S: Drop>(alloc: Global) -> Result<Vec<DeskValue<S>>, Memory>
 }
 
 impl<P: Naming> OpenedDesk<P> {
+    ghost use Rattle.cordz_desk.specs.Closed.{passes_given};
     ghost use Rattle.cordz_desk.specs.Opened.{opened_desk, opened_walkers};
     ghost use Rattle.cordz_desk.specs.Seeing.{first_tokens};
     ghost use Rattle.cordz_desk.specs.Tokens.{token_of};
@@ -98,7 +99,8 @@ impl<P: Naming> OpenedDesk<P> {
         alloc: Global,
     ) -> Result<(CordzDesk<P, D>, Vec<CordzPass<P, D>>), Memory>
         requires { opened_desk self ≡ D.desk }
-        ensures { IfOk result (λ r. map token_of r.1.items ≡ first_tokens (opened_walkers self + 1)) }
+        ensures tokens { IfOk result (λ r. map token_of r.1.items ≡ first_tokens (opened_walkers self + 1)) }
+        ensures given { IfOk result (λ r. passes_given r.0 ≡ opened_walkers self + 1) }
     {
         let OpenedDesk {
             desk,

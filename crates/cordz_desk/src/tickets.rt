@@ -13,6 +13,7 @@ use std::marker::PhantomData;
 use turn_desk::Turn;
 
 /// The owner's token of a tracked record. Contracts see the notes that were set under it.
+#[derive(Drop)]
 pub struct Ticket<P: Naming, D: DeskNaming> {
     pub(crate) pass: Seated<P>,
     pub(crate) slot: u16,

@@ -8,7 +8,7 @@ use Rattle.record_rule.specs.declared.views.DeskView.{DeskView}
 use Rattle.record_rule.specs.declared.views.DeskView.TheVariants.{Token}
 use Rattle.cordz_desk.specs.Asking.{Can, IsOnceOver, Performed}
 use Rattle.cordz_desk.specs.Shares.{tree_in, IsShare}
-use Rattle.cordz_desk.proofs.Finds.{at_turn, found_small, found_once, found_list, found_clock, found_can, does_of, deed_few}
+use Rattle.cordz_desk.proofs.Finds.{at_turn, found_small, found_stamp, found_once, found_list, found_clock, found_can, does_of, deed_few}
 use Rattle.cordz_desk.proofs.desk.CordzDesk.act.Goals as goal
 
 pub perform-deed-requires-clause-list : goal.perform-deed-requires-clause-list
@@ -64,6 +64,15 @@ returns-clause-once g c =
     let d = c.perform-deed.result in
     found_once tree_in IsShare d _ p (at_turn tree_in IsShare _ _ p c.enter-turn.ensures.agreed c.requires.token)
     (subst (λ z. IsOnceOver d (registry_of z)) is c.perform-deed.ensures.once)
+
+pub returns-clause-first : goal.returns-clause-first
+returns-clause-first g c =
+    let is = c.value.ensures.value ∙ c.enter-turn.ensures.turn.1 in
+    let p = token_in (desk_view c.args.pass.now) in
+    let d = c.perform-deed.result in
+    let y = c.perform-deed.new.value in
+    found_stamp tree_in IsShare d _ y p (at_turn tree_in IsShare _ _ p c.enter-turn.ensures.agreed c.requires.token)
+    (subst (λ z. Makes z y d) is c.perform-deed.ensures.makes)
 
 pub returns-clause-small : goal.returns-clause-small
 returns-clause-small g c =
