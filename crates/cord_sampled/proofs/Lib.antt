@@ -7,3 +7,4 @@ pub mod GrownLaws
 pub mod Keeping
 pub mod MadeLaws
 pub mod SameCord
+pub mod RangeLaws

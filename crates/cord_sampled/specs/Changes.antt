@@ -9,7 +9,6 @@ use Rattle.cord_value.specs.Views.{CordView}
 use Rattle.cord_sampled.specs.declared.mark.Mark.{Mark}
 use Rattle.cord_sampled.specs.declared.mark.Mark.TheVariants.{Gone}
 use Rattle.cord_value.specs.declared.refusals.CordError.{CordError}
-use Rattle.cord_sampled.specs.declared.edits.Edit.{Edit}
 use Rattle.cord_sampled.specs.Changing.{IsUndone}
 use Rattle.cord_sampled.specs.Edits.{HasKept}
 use Rattle.cord_sampled.specs.Grown.{HasGrown, IsUntouched, IsUnsampled}
@@ -44,6 +43,7 @@ module _ {P D : Type 0} {p : _} {d : _} where
   IsMarked limit due None u mark old new a b v w = HasGrown limit due u mark old new a b v w
   IsMarked limit due (Some t) u mark old new a b v w = HasChanged limit t u mark old new a b v w
 
-  abbrev pub IsNotDone : ℕ → Bool → Option (Ticket P D p d) → Option (Ticket P D p d) → Edit → CordError → CordView → CordView → View → View → Type 0
-  IsNotDone limit due None u edit x old new v w = (u ≡ None) × (IsUntouched limit x old new v w ⊎ IsUnsampled limit due edit x old new v w)
-  IsNotDone limit due (Some t) u edit x old new v w = IsSomeAnd u (λ u. IsUndone limit t u edit x old new v w)
+  abbrev pub IsNotDone : ℕ → Bool → Option (Ticket P D p d) → Option (Ticket P D p d) → (CordView → CordView → Type 0)
+      → CordError → CordView → CordView → View → View → Type 0
+  IsNotDone limit due None u makes x old new v w = (u ≡ None) × (IsUntouched limit x old new v w ⊎ IsUnsampled limit due makes x old new v w)
+  IsNotDone limit due (Some t) u makes x old new v w = IsSomeAnd u (λ u. IsUndone limit t u makes x old new v w)

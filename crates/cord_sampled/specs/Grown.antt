@@ -12,7 +12,6 @@ use Rattle.cord_sampled.specs.declared.edits.Edit.{Edit}
 use Rattle.cord_sampled.specs.declared.edits.Edit.TheVariants.{AppendBytes, PrependBytes, Double, CutFront, CutBack, SetSum}
 use Rattle.cord_sampled.specs.declared.mark.Mark.{Mark}
 use Rattle.cord_sampled.specs.Copies.{one_if}
-use Rattle.cord_sampled.specs.Edits.{IsEdited, IsEditRefused}
 use Rattle.cord_sampled.specs.Making.{turn_after, IsRecorded}
 use Rattle.cord_sampled.specs.Refusals.{IsLimit}
 use Rattle.cord_sampled.specs.Tracking.{ended_by}
@@ -34,17 +33,17 @@ makes_tree (SetSum value) n = true
 abbrev pub grows : Edit → CordView → Bool
 grows edit c = not (is_some c.tree) && makes_tree edit (length c.bytes)
 
--- and that is to be sampled
-abbrev pub is_due : ℕ → ℕ → Edit → CordView → Bool
-is_due stride made edit c = grows edit c && turn_after stride made
+-- whether a change is to have its cord sampled, by whether it makes a new tree
+abbrev pub is_due : ℕ → ℕ → Bool → Bool
+is_due stride made new = new && turn_after stride made
 
 abbrev pub count_of : Bool → ℕ
 count_of false = 0
 count_of true = 1
 
--- the edit was refused, or the record's pass found the limit reached
-abbrev pub IsChangeRefused : ℕ → ℕ → Bool → Edit → CordView → CordError → View → View → Type 0
-IsChangeRefused size limit due edit old x v w = IsEditRefused size limit edit old x v w ⊎ ((due ≡ true) × IsLimit limit x)
+-- it was refused as it is without a record, or the record's pass found the limit reached
+abbrev pub IsChangeRefused : ℕ → Bool → (CordError → View → View → Type 0) → CordError → View → View → Type 0
+IsChangeRefused limit due refuses x v w = refuses x v w ⊎ ((due ≡ true) × IsLimit limit x)
 
 module _ {P D : Type 0} {p : _} {d : _} where
   -- the cord was changed, and sampled where that is due
@@ -59,9 +58,9 @@ pub record IsUntouched (limit : ℕ) (x : CordError) (old new : CordView) (v w :
   pub cord : new ≡ old
   pub balanced : IsBalanced limit x v w
 
-pub record IsUnsampled (limit : ℕ) (due : Bool) (edit : Edit) (x : CordError) (old new : CordView) (v w : View) : Type 0 where
+pub record IsUnsampled (limit : ℕ) (due : Bool) (makes : CordView → CordView → Type 0) (x : CordError) (old new : CordView) (v w : View) : Type 0 where
   pub memory : x ≡ Memory
   pub was_due : due ≡ true
-  pub edited : IsEdited edit old new
+  pub made : makes old new
   pub numbers : List ℕ
   pub keeps : Keeps limit numbers (passes_of new.tree - passes_of old.tree + 1) (passes_of old.tree - passes_of new.tree + 1) v w

@@ -4,6 +4,7 @@ pub mod Copies
 pub mod Edits
 pub mod Externals
 pub mod Grown
+pub mod Joins
 pub mod Leaving
 pub mod Making
 pub mod Peeks
@@ -14,3 +15,4 @@ pub mod Refusals
 pub mod Sampled
 pub mod Showing
 pub mod Tracking
+pub mod Within

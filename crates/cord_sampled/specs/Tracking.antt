@@ -1,5 +1,5 @@
 -- How a cord gets a record: a slot is reserved, and its record linked; or each slot is in use.
-use Rattle.std.specs.Prelude.{ℕ, ◌≡◌, false, [], ◌∷◌, Option, Some, None}
+use Rattle.std.specs.Prelude.{ℕ, ◌≡◌, ◌≤◌, false, [], ◌∷◌, Option, Some, None}
 use Rattle.node_forest.specs.Label.{Node}
 use Rattle.record_rule.specs.declared.values.Note.{Note}
 use Rattle.record_rule.specs.declared.views.Claim.TheVariants.{Nothing}
@@ -28,6 +28,7 @@ module _ {P D : Type 0} {p : _} {d : _} where
     pub notes : notes_of t ≡ first_note (stamp_of t) e ∷ []
     pub noted : note ≡ (first_note (stamp_of t) e).note
     pub some : bare_of t ≡ false
+    pub positive : 1 ≤ stamp_of t
     pub same : IsSameBut (slot_of t) a b
     pub untracked : b.untracked ≡ a.untracked
     pub claim : claim_at b.claims (slot_of t) ≡ Nothing

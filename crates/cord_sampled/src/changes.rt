@@ -11,6 +11,7 @@ ghost use Rattle.cord_sampled.specs.Edits.{alters, IsEdited, IsEditRefused};
 ghost use Rattle.cord_sampled.specs.Grown.{is_due, grows, count_of, IsChangeRefused};
 ghost use Rattle.cord_sampled.specs.Showing.{IsSameRecord};
 
+use crate::alters::Alters;
 use crate::changing::change_recorded;
 use crate::cord::SampledCord;
 use crate::edits::{Edit, is_change};
@@ -28,23 +29,25 @@ impl<P: Naming, D: DeskNaming> SampledCord<P, D> {
     ghost use Rattle.cord_sampled.specs.Sampled.{cord_in, ticket_in};
 
     /// Does a change on a cord that has a record. The record of a cord that becomes inline is given up.
-    pub(crate) fn change_with_record<R: Wait, B: Releaser>(
+    pub(crate) fn change_with_record<R: Wait, B: Releaser, S: Alters<P, B, W>, W>(
         &mut self,
         alloc: Global,
         rt: &R,
         hand: &mut Hand<'_, P, D, B>,
-        edit: Edit<'_>,
+        step: &S,
+        with: &mut W,
     ) -> Result<Mark, CordError>
         requires room { length hand.old.worker.holds ≤ 96 }
         requires few { made_of (token_of hand.old.pass).own + 3 ≤ 2 ^ 34 }
         requires record { IsSome (ticket_in self.old) }
-        requires alters { alters edit (cord_in self.old) ≡ true }
-        ensures edited { IfOk result (λ _. IsEdited edit.entry (cord_in self.old) (cord_in self.new)) }
+        requires changes { S.changes step.now with.old (cord_in self.old) ≡ true }
+        ensures altered { IfOk result (λ _. S.makes step.now with.old (cord_in self.old) (cord_in self.new)) }
         ensures changed { IfOk result (λ mark. MatchOption (ticket_in self.old) ⊥ (λ t. HasChanged P.limit t (ticket_in self.new) mark
             (cord_in self.old) (cord_in self.new) (token_of hand.old.pass) (token_of hand.new.pass) hand.old.worker hand.new.worker)) }
-        ensures refused { IfErr result (λ x. IsEditRefused P.size P.limit edit.entry (cord_in self.old) x hand.old.worker hand.new.worker) }
+        ensures refused { IfErr result (λ x. S.refuses step.now with.old (cord_in self.old) x hand.old.worker hand.new.worker) }
         ensures undone { IfErr result (λ x. MatchOption (ticket_in self.old) ⊥ (λ t. IsSomeAnd (ticket_in self.new)
-            (λ u. IsUndone P.limit t u edit.entry x (cord_in self.old) (cord_in self.new) hand.old.worker hand.new.worker))) }
+            (λ u. IsUndone P.limit t u (S.makes step.now with.old) x (cord_in self.old) (cord_in self.new) hand.old.worker hand.new.worker))) }
+        ensures stays { with.new ≡ with.old }
         ensures token { IfErr result (λ _. token_of hand.new.pass ≡ token_of hand.old.pass) }
         ensures holds { SameHolds hand.old.worker.holds hand.new.worker.holds }
         ensures acted { made_of (token_of hand.new.pass).own ≤ made_of (token_of hand.old.pass).own + 3 }
@@ -53,7 +56,7 @@ impl<P: Naming, D: DeskNaming> SampledCord<P, D> {
         let Some(ticket) = &mut self.ticket else {
             unreachable!()
         };
-        match change_recorded(alloc, rt, hand, &mut self.cord, ticket, edit) {
+        match change_recorded(alloc, rt, hand, &mut self.cord, ticket, step, with) {
             Ok(mark) => {
                 if self.cord.is_tree() {
                     return Ok(mark);
@@ -83,14 +86,15 @@ impl<P: Naming, D: DeskNaming> SampledCord<P, D> {
             × IsSameRecord (ticket_in self.old) (ticket_in self.new) × (hand.new ≡ hand.old) }
         ensures edited { alters edit.entry (cord_in self.old) ≡ true → IfOk result (λ _. IsEdited edit.entry (cord_in self.old) (cord_in self.new)) }
         ensures changed { alters edit.entry (cord_in self.old) ≡ true → IfOk result (λ mark. IsMarked P.limit
-            (is_due hand.old.stride hand.old.made edit.entry (cord_in self.old)) (ticket_in self.old) (ticket_in self.new) mark
+            (is_due hand.old.stride hand.old.made (grows edit.entry (cord_in self.old))) (ticket_in self.old) (ticket_in self.new) mark
             (cord_in self.old) (cord_in self.new) (token_of hand.old.pass) (token_of hand.new.pass) hand.old.worker hand.new.worker) }
-        ensures refused { IfErr result (λ x. IsChangeRefused P.size P.limit (is_due hand.old.stride hand.old.made edit.entry (cord_in self.old)) edit.entry
-            (cord_in self.old) x hand.old.worker hand.new.worker) }
-        ensures undone { IfErr result (λ x. IsNotDone P.limit (is_due hand.old.stride hand.old.made edit.entry (cord_in self.old)) (ticket_in self.old)
-            (ticket_in self.new) edit.entry x (cord_in self.old) (cord_in self.new) hand.old.worker hand.new.worker) }
+        ensures refused { IfErr result (λ x. IsChangeRefused P.limit (is_due hand.old.stride hand.old.made (grows edit.entry (cord_in self.old)))
+            (IsEditRefused P.size P.limit edit.entry (cord_in self.old)) x hand.old.worker hand.new.worker) }
+        ensures undone { IfErr result (λ x. IsNotDone P.limit (is_due hand.old.stride hand.old.made (grows edit.entry (cord_in self.old))) (ticket_in self.old)
+            (ticket_in self.new) (IsEdited edit.entry) x (cord_in self.old) (cord_in self.new) hand.old.worker hand.new.worker) }
         ensures token { IfErr result (λ _. token_of hand.new.pass ≡ token_of hand.old.pass) }
-        ensures made { IfOk result (λ _. hand.new.made ≡ hand.old.made + count_of (alters edit.entry (cord_in self.old) && grows edit.entry (cord_in self.old))) }
+        ensures made { IfOk result (λ _. hand.new.made
+            ≡ hand.old.made + count_of (alters edit.entry (cord_in self.old) && grows edit.entry (cord_in self.old))) }
         ensures unmade { IfErr result (λ _. hand.new.made ≡ hand.old.made) }
         ensures holds { SameHolds hand.old.worker.holds hand.new.worker.holds }
         ensures acted { made_of (token_of hand.new.pass).own ≤ made_of (token_of hand.old.pass).own + 3 }
@@ -100,9 +104,9 @@ impl<P: Naming, D: DeskNaming> SampledCord<P, D> {
             return Ok(Mark::Plain);
         }
         if self.ticket.is_some() {
-            self.change_with_record(alloc, rt, hand, edit)
+            self.change_with_record(alloc, rt, hand, &edit, &mut ())
         } else {
-            self.change_without_record(alloc, rt, hand, edit)
+            self.change_without_record(alloc, rt, hand, &edit, &mut ())
         }
     }
 }

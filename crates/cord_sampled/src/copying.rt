@@ -1,9 +1,10 @@
 //! Copies of sampled cords, and ranges of them.
-ghost use Rattle.std.specs.Prelude.{◌≡◌, ◌+◌, ◌-◌, ◌<◌, ◌≤◌, ◌^◌, length, take, drop, is_some, IfOk, IfErr, OnErr};
+ghost use Rattle.std.specs.Prelude.{◌≡◌, ◌+◌, ◌-◌, ◌<◌, ◌≤◌, ◌^◌, length, take, drop, is_some, None, IfOk, IfErr, OnErr};
 ghost use Rattle.tree_shapes.specs.Cords.{sub_cord};
 ghost use Rattle.pool_rule.specs.Trades.{SameHolds};
 ghost use Rattle.record_rule.specs.Log.{made_of};
 ghost use Rattle.cordz_desk.specs.Tokens.{token_of};
+ghost use Rattle.cord_value.specs.Changes.{IsRefused};
 ghost use Rattle.cord_value.specs.Ranges.{SharesIfTree};
 ghost use Rattle.cord_value.specs.Refusals.{IsBalanced};
 ghost use Rattle.cord_value.specs.Views.{cord_shape, passes_of, IsTreeOf};
@@ -81,6 +82,8 @@ impl<P: Naming, D: DeskNaming> SampledCord<P, D> {
             (ticket_in r.0) r.1 (token_of hand.old.pass) (token_of hand.new.pass)) }
         ensures made { IfOk result (λ r. hand.new.made ≡ hand.old.made + passes_of (cord_in r.0).tree) }
         ensures worker { IfOk result (λ r. HasMade P.limit (λ n. n ≤ 32) (cord_in r.0).tree (ticket_in r.0) r.1 hand.old.worker hand.new.worker) }
+        ensures refused { IfErr result (λ x. IsRefused P.size P.limit None (sub_cord pos n (cord_shape (cord_in self.old))) x
+            hand.old.worker hand.new.worker) }
         ensures balanced { IfErr result (λ x. IsBalanced P.limit x hand.old.worker hand.new.worker) }
         ensures token { OnErr result (token_of hand.new.pass ≡ token_of hand.old.pass) }
         ensures unmade { OnErr result (hand.new.made ≡ hand.old.made) }
@@ -92,7 +95,10 @@ impl<P: Naming, D: DeskNaming> SampledCord<P, D> {
         let start = pos.min(size);
         let long = n.min(size - start) > MOST_INLINE as u64;
         let wanted = long && is_turn(hand.stride, hand.made);
-        let sample = sample_pass(hand.pool, &mut hand.worker, wanted)?;
+        let sample = match sample_pass(hand.pool, &mut hand.worker, wanted) {
+            Ok(sample) => sample,
+            Err(error) => return Err(error),
+        };
         match self.cord.sub(alloc, hand.pool, &mut hand.worker, pos, n) {
             Ok(cord) => counted(rt, hand, cord, sample),
             Err(error) => {

@@ -1,10 +1,10 @@
 //! A cord with its record, if it has one.
-ghost use Rattle.std.specs.Prelude.{◌≡◌, ◌+◌, ◌≤◌, ◌^◌, length, MatchOption};
+ghost use Rattle.std.specs.Prelude.{◌≡◌, ◌+◌, ◌≤◌, ◌^◌, length, is_some, None, MatchOption};
 ghost use Rattle.std.specs.Bool.{⊤};
 ghost use Rattle.pool_rule.specs.Trades.{SameHolds};
 ghost use Rattle.record_rule.specs.Log.{made_of};
 ghost use Rattle.cordz_desk.specs.Tokens.{token_of};
-ghost use Rattle.cord_value.specs.Views.{passes_of};
+ghost use Rattle.cord_value.specs.Views.{no_cord, passes_of};
 ghost use Rattle.cord_sampled.specs.Records.{HasRecord};
 ghost use Rattle.cord_sampled.specs.Props.{props};
 
@@ -18,6 +18,7 @@ use node_pool::Naming;
 use std::sync::Wait;
 
 /// A cord, and the ticket of its record where it is sampled. An inline cord has none. Contracts see both.
+#[derive(Drop)]
 pub struct SampledCord<P: Naming, D: DeskNaming> {
     pub(crate) cord: Cord<P>,
     pub(crate) ticket: Option<Ticket<P, D>>,
@@ -29,11 +30,42 @@ impl<P: Naming, D: DeskNaming> SampledCord<P, D> {
     ghost use Rattle.cord_sampled.specs.Leaving.{IsLeft, gone_mark};
     ghost use Rattle.cord_sampled.specs.Showing.{IsShown, IsSameRecord};
 
-    /// The cord without its record.
+    /// The empty cord, which has no record.
+    pub fn new() -> SampledCord<P, D>
+        ensures cord { cord_in result ≡ no_cord }
+        ensures none { ticket_in result ≡ None }
+    {
+        SampledCord {
+            cord: Cord::new(),
+            ticket: None,
+        }
+    }
+
+    /// Whether it has a record.
+    pub fn is_sampled(&self) -> bool
+        ensures { result ≡ is_some (ticket_in self.now) }
+    {
+        self.ticket.is_some()
+    }
+
+    /// The cord without its record, which is one of the cord's tree.
     pub fn cord(&self) -> &Cord<P>
-        ensures { result.now ≡ cord_in self.now }
+        ensures cord { result.now ≡ cord_in self.now }
+        ensures record { MatchOption (ticket_in self.now) ⊤ (HasRecord (cord_in self.now).tree) }
     {
         &self.cord
+    }
+
+    /// The cord, which has no record.
+    pub fn into_cord(self) -> Cord<P>
+        requires none { ticket_in self ≡ None }
+        ensures { result ≡ cord_in self }
+    {
+        let SampledCord { cord, ticket } = self;
+        match ticket {
+            None => cord,
+            Some(_ticket) => unreachable!(),
+        }
     }
 
     /// Gives up the record, if there is one, and releases the cord.

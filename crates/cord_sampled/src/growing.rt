@@ -6,13 +6,12 @@ ghost use Rattle.cordz_desk.specs.Tokens.{token_of};
 ghost use Rattle.cord_value.specs.Workers.{Keeps};
 ghost use Rattle.cord_value.specs.declared.refusals.CordError.TheVariants.{Memory};
 ghost use Rattle.cord_sampled.specs.Copies.{IsEmptyIf};
-ghost use Rattle.cord_sampled.specs.Edits.{IsEdited};
-ghost use Rattle.cord_sampled.specs.Grown.{is_long, makes_tree, grows, is_due, count_of, HasGrown, IsChangeRefused, IsUntouched, IsUnsampled};
+ghost use Rattle.cord_sampled.specs.Grown.{is_due, count_of, HasGrown, IsChangeRefused, IsUntouched, IsUnsampled};
 ghost use Rattle.cord_sampled.specs.Making.{IsRecorded};
 ghost use Rattle.cord_sampled.specs.Tracking.{ended_by};
 
+use crate::alters::Alters;
 use crate::cord::SampledCord;
-use crate::edits::{Edit, apply};
 use crate::hand::Hand;
 use crate::mark::Mark;
 use crate::passes::end_pass;
@@ -20,40 +19,12 @@ use crate::sampling::{is_turn, sample_pass};
 use crate::sharing::share_tree;
 use crate::tracking::track;
 use cord_port::Releaser;
-use cord_value::{CopyRefused, Cord, CordError};
+use cord_value::{CopyRefused, CordError};
 use cordz_desk::DeskNaming;
 use node_pool::{Naming, Pass};
 use std::alloc::Global;
 use std::mem;
 use std::sync::Wait;
-
-/// Whether an edit makes a tree of an inline cord of so many bytes.
-fn makes_tree(edit: Edit<'_>, size: u64) -> bool
-    requires { size ≤ 2147483647 }
-    ensures { result ≡ makes_tree edit.entry size }
-{
-    match edit {
-        Edit::AppendBytes(bytes) => is_long(size + bytes.len() as u64),
-        Edit::PrependBytes(bytes) => is_long(size + bytes.len() as u64),
-        Edit::Double => is_long(size + size),
-        Edit::CutFront(_) => false,
-        Edit::CutBack(_) => false,
-        Edit::SetSum(_) => true,
-    }
-}
-
-fn is_long(size: u64) -> bool
-    ensures { result ≡ is_long size }
-{
-    size > 15 && size < 2_147_483_648
-}
-
-/// Whether an edit makes a new tree.
-fn grows<P: Naming>(edit: Edit<'_>, cord: &Cord<P>) -> bool
-    ensures { result ≡ grows edit.entry cord.now }
-{
-    !cord.is_tree() && makes_tree(edit, cord.len())
-}
 
 impl<P: Naming, D: DeskNaming> SampledCord<P, D> {
     ghost use Rattle.cord_sampled.specs.Sampled.{cord_in, ticket_in};
@@ -99,37 +70,40 @@ impl<P: Naming, D: DeskNaming> SampledCord<P, D> {
     }
 
     /// Does a change on a cord that has no record. An inline cord that becomes a tree is counted, and sampled at its turn.
-    pub(crate) fn change_without_record<R: Wait, B: Releaser>(
+    pub(crate) fn change_without_record<R: Wait, B: Releaser, S: Alters<P, B, W>, W>(
         &mut self,
         alloc: Global,
         rt: &R,
         hand: &mut Hand<'_, P, D, B>,
-        edit: Edit<'_>,
+        step: &S,
+        with: &mut W,
     ) -> Result<Mark, CordError>
         requires room { length hand.old.worker.holds ≤ 96 }
         requires few { made_of (token_of hand.old.pass).own + 2 ≤ 2 ^ 34 }
         requires count { hand.old.made < 2 ^ 64 - 1 }
         requires none { ticket_in self.old ≡ None }
-        ensures edited { IfOk result (λ _. IsEdited edit.entry (cord_in self.old) (cord_in self.new)) }
-        ensures grown { IfOk result (λ mark. HasGrown P.limit (is_due hand.old.stride hand.old.made edit.entry (cord_in self.old)) (ticket_in self.new) mark
-            (cord_in self.old) (cord_in self.new) (token_of hand.old.pass) (token_of hand.new.pass) hand.old.worker hand.new.worker) }
-        ensures made { IfOk result (λ _. hand.new.made ≡ hand.old.made + count_of (grows edit.entry (cord_in self.old))) }
-        ensures refused { IfErr result (λ x. IsChangeRefused P.size P.limit (is_due hand.old.stride hand.old.made edit.entry (cord_in self.old)) edit.entry
-            (cord_in self.old) x hand.old.worker hand.new.worker) }
+        requires changes { S.changes step.now with.old (cord_in self.old) ≡ true }
+        ensures altered { IfOk result (λ _. S.makes step.now with.old (cord_in self.old) (cord_in self.new)) }
+        ensures grown { IfOk result (λ mark. HasGrown P.limit (is_due hand.old.stride hand.old.made (S.roots step.now with.old (cord_in self.old)))
+            (ticket_in self.new) mark (cord_in self.old) (cord_in self.new) (token_of hand.old.pass) (token_of hand.new.pass) hand.old.worker hand.new.worker) }
+        ensures made { IfOk result (λ _. hand.new.made ≡ hand.old.made + count_of (S.roots step.now with.old (cord_in self.old))) }
+        ensures refused { IfErr result (λ x. IsChangeRefused P.limit (is_due hand.old.stride hand.old.made (S.roots step.now with.old (cord_in self.old)))
+            (S.refuses step.now with.old (cord_in self.old)) x hand.old.worker hand.new.worker) }
         ensures undone { IfErr result (λ x. IsUntouched P.limit x (cord_in self.old) (cord_in self.new) hand.old.worker hand.new.worker
-            ⊎ IsUnsampled P.limit (is_due hand.old.stride hand.old.made edit.entry (cord_in self.old)) edit.entry x (cord_in self.old) (cord_in self.new)
-            hand.old.worker hand.new.worker) }
+            ⊎ IsUnsampled P.limit (is_due hand.old.stride hand.old.made (S.roots step.now with.old (cord_in self.old))) (S.makes step.now with.old) x
+            (cord_in self.old) (cord_in self.new) hand.old.worker hand.new.worker) }
         ensures none { IfErr result (λ _. ticket_in self.new ≡ None) }
+        ensures stays { with.new ≡ with.old }
         ensures token { IfErr result (λ _. token_of hand.new.pass ≡ token_of hand.old.pass) }
         ensures unmade { IfErr result (λ _. hand.new.made ≡ hand.old.made) }
         ensures holds { SameHolds hand.old.worker.holds hand.new.worker.holds }
         ensures acted { made_of (token_of hand.new.pass).own ≤ made_of (token_of hand.old.pass).own + 2 }
         ensures stride { hand.new.stride ≡ hand.old.stride }
     {
-        let grows = grows(edit, &self.cord);
+        let grows = step.grows(&self.cord, with);
         let wanted = grows && is_turn(hand.stride, hand.made);
         let sample = sample_pass(hand.pool, &mut hand.worker, wanted)?;
-        match apply(alloc, hand.pool, &mut hand.worker, &mut self.cord, edit) {
+        match step.apply(alloc, hand.pool, &mut hand.worker, &mut self.cord, with) {
             Ok(()) => match self.sample(rt, hand, sample) {
                 Ok(mark) => {
                     if grows {

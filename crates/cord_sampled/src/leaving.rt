@@ -18,7 +18,7 @@ use node_pool::{Naming, Pool, Worker};
 use std::sync::Wait;
 
 /// Leaves the tree of a share, and ends its pass.
-pub(crate) fn end_share<P: Naming, B: Releaser>(
+pub fn end_share<P: Naming, B: Releaser>(
     pool: &Pool<P, B>,
     w: &mut Worker<P>,
     share: Option<Share<P>>,

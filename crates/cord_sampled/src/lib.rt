@@ -1,9 +1,9 @@
 //! Cords of which some are sampled: a sampled cord has a record, which a walk over records finds, with a share of its tree.
 //!
-//! Not here yet: cords added to a cord. No clause says why a range's cord is refused, nor names the plain step's mark; marks are told by the records
-//! that they stand for. A record's share is held while its cord is changed.
+//! No clause names the plain step's mark; marks are told by the records that they stand for. A record's share is held while its cord is changed.
 #![tactic(auto)]
 
+mod alters;
 mod changes;
 mod changing;
 mod copies;
@@ -13,6 +13,7 @@ mod edits;
 mod externals;
 mod growing;
 mod hand;
+mod joining;
 mod leaving;
 mod making;
 mod mark;
@@ -30,6 +31,7 @@ pub use copies::{Copied, adopt};
 pub use cord::SampledCord;
 pub use edits::Edit;
 pub use hand::Hand;
+pub use leaving::end_share;
 pub use mark::Mark;
 pub use passes::Ready;
 pub use peeking::Peeker;

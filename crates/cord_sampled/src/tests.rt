@@ -14,7 +14,7 @@ use crate::mark::Mark;
 use cord_port::LogReleaser;
 use cord_value::CordError;
 use cordz_desk::{DeskNaming, OpenedDesk};
-use node_pool::{Closed, Naming, Opened, Pool, Worker};
+use node_pool::{Closed, Naming, Opened, Pool, Side, Worker};
 use record_rule::Note;
 use std::alloc::Global;
 use std::marker::Brand;
@@ -36,6 +36,8 @@ fn marks<R: Wait, P: Naming, D: DeskNaming>(
     requires few { made_of (token_of hand.old.pass).own + 32 ≤ 2 ^ 34 }
     requires count { hand.old.made + 8 < 2 ^ 64 - 1 }
     ensures holds { SameHolds hand.old.worker.holds hand.new.worker.holds }
+    ensures acted { made_of (token_of hand.new.pass).own ≤ made_of (token_of hand.old.pass).own + 16 }
+    ensures made { hand.new.made ≤ hand.old.made + 3 }
 {
     let (mut cord, made) = match SampledCord::from_bytes(alloc, rt, hand, LONG) {
         Ok(made) => made,
@@ -61,8 +63,51 @@ fn marks<R: Wait, P: Naming, D: DeskNaming>(
     }
 }
 
+/// The marks of a cord to which few bytes of another are added, of that other when it gets all those bytes, and when it is released.
+type Joins = (Mark, Mark, Mark);
+
+fn joins<R: Wait, P: Naming, D: DeskNaming>(
+    alloc: Global,
+    rt: &R,
+    hand: &mut Hand<'_, P, D, Boxes>,
+) -> Result<Joins, CordError>
+    requires room { length hand.old.worker.holds ≤ 96 }
+    requires few { made_of (token_of hand.old.pass).own + 16 ≤ 2 ^ 34 }
+    requires count { hand.old.made + 8 < 2 ^ 64 - 1 }
+    ensures holds { SameHolds hand.old.worker.holds hand.new.worker.holds }
+{
+    let (mut few, _) = match SampledCord::from_bytes(alloc, rt, hand, b"few") {
+        Ok(made) => made,
+        Err(error) => return Err(error),
+    };
+    let (mut cord, _) = match SampledCord::from_bytes(alloc, rt, hand, LONG) {
+        Ok(made) => made,
+        Err(error) => {
+            few.release(rt, hand);
+            return Err(error);
+        }
+    };
+    let told = cord.join(alloc, rt, hand, &mut few, Side::Front);
+    let rooted = match told {
+        Ok(_) => few.join(alloc, rt, hand, &mut cord, Side::Back),
+        Err(error) => Err(error),
+    };
+    cord.release(rt, hand);
+    let gone = few.release(rt, hand);
+    match (told, rooted) {
+        (Ok(told), Ok(rooted)) => Ok((told, rooted, gone)),
+        _ => Err(CordError::Memory),
+    }
+}
+
 /// What was seen of a run: its marks, how many new trees it counted, how many shares the desk had left, and how many numbers were in use.
-type Seen = (Result<Marks, CordError>, u64, usize, u32);
+type Seen = (
+    Result<Marks, CordError>,
+    Result<Joins, CordError>,
+    u64,
+    usize,
+    u32,
+);
 
 fn with_desk<R: Wait, P: Naming, D: DeskNaming>(
     alloc: Global,
@@ -91,6 +136,7 @@ fn with_desk<R: Wait, P: Naming, D: DeskNaming>(
         made: 0,
     };
     let marks = marks(alloc, rt, &mut hand);
+    let joins = joins(alloc, rt, &mut hand);
     let Hand {
         worker,
         pass,
@@ -106,7 +152,7 @@ fn with_desk<R: Wait, P: Naming, D: DeskNaming>(
         in_use,
         releasers: _,
     } = pool.close(workers);
-    Some((marks, made, left, in_use))
+    Some((marks, joins, made, left, in_use))
 }
 
 fn with_pool<R: Wait, P: Naming>(
@@ -136,7 +182,7 @@ fn sampled_cords_tell_what_becomes_of_their_records(rt: HostRuntime) {
             length,
         })
     };
-    for (stride, wanted) in [
+    for (stride, wanted, joined) in [
         (
             1u32,
             (
@@ -146,6 +192,7 @@ fn sampled_cords_tell_what_becomes_of_their_records(rt: HostRuntime) {
                 Mark::Gone { stamp: 1 },
                 Mark::Gone { stamp: 2 },
             ),
+            (note(3, 1, 26), note(4, 0, 29), Mark::Gone { stamp: 4 }),
         ),
         (
             0,
@@ -156,6 +203,7 @@ fn sampled_cords_tell_what_becomes_of_their_records(rt: HostRuntime) {
                 Mark::Plain,
                 Mark::Plain,
             ),
+            (Mark::Plain, Mark::Plain, Mark::Plain),
         ),
         (
             2,
@@ -166,6 +214,7 @@ fn sampled_cords_tell_what_becomes_of_their_records(rt: HostRuntime) {
                 Mark::Plain,
                 Mark::Plain,
             ),
+            (note(1, 1, 26), Mark::Plain, Mark::Plain),
         ),
     ] {
         let Ok(pool) = Opened::start(alloc, 16, 8, 1, Vec::new(alloc)) else {
@@ -173,6 +222,10 @@ fn sampled_cords_tell_what_becomes_of_their_records(rt: HostRuntime) {
             return;
         };
         let seen = with_pool::<HostRuntime, Brand>(alloc, &rt, pool, stride);
-        assert_eq!(rt; seen, Some((Ok(wanted), 1, 0, 0)), "stride {stride}");
+        assert_eq!(rt;
+            seen,
+            Some((Ok(wanted), Ok(joined), 3, 0, 0)),
+            "stride {stride}"
+        );
     }
 }
