@@ -1,0 +1,7 @@
+-- The lemmas of this crate.
+pub mod Balance
+pub mod Counting
+pub mod EndLaws
+pub mod StampLaws
+pub mod Totals
+pub mod Walkers

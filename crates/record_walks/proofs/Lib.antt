@@ -1,0 +1,4 @@
+-- The lemmas of this crate.
+pub mod FreedLaws
+pub mod ReadLaws
+pub mod WalkLaws

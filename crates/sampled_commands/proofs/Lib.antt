@@ -1,0 +1,21 @@
+-- The lemmas of this crate.
+pub mod Spelling
+pub mod Renaming
+pub mod Ongoing
+pub mod Entries
+pub mod Sides
+pub mod Whole
+pub mod Marks
+pub mod Stepping
+pub mod Comings
+pub mod Doing
+pub mod Refused
+pub mod Absent
+pub mod Working
+pub mod Made
+pub mod Fresh
+pub mod Slotted
+pub mod Externals
+pub mod GivenUp
+pub mod Results
+pub mod Forming
