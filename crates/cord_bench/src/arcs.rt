@@ -1,6 +1,6 @@
 //! The yardstick of copies: clones of an `Arc`.
-use crate::lap::Lap;
 use crate::plan::{BYTES, Plan, Sharing};
+use bench_laps::Lap;
 use std::alloc::{AllocError, Global};
 use std::io;
 use std::sync::{Arc, Barrier, Wait};

@@ -3,9 +3,9 @@ ghost use Rattle.std.specs.Prelude.{◌≡◌, ◌≤◌, length};
 ghost use Rattle.pool_rule.specs.Trades.{SameHolds};
 ghost use Rattle.node_pool.specs.Opened.{opened_table, opened_numbers, opened_passes, opened_workers, opened_boxes};
 
-use crate::lap::Lap;
 use crate::plan::{BYTES, Plan};
 use crate::seats::{Boxes, Seat, left, seated};
+use bench_laps::Lap;
 use cord_value::{Cord, CordError};
 use node_pool::{Closed, Naming, Opened, Pool, Worker};
 use std::alloc::{AllocError, Global};

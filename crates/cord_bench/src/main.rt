@@ -4,7 +4,6 @@
 
 mod arcs;
 mod copies;
-mod lap;
 mod making;
 mod plan;
 mod report;

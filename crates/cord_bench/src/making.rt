@@ -4,9 +4,9 @@ ghost use Rattle.pool_rule.specs.Trades.{SameHolds};
 ghost use Rattle.node_pool.specs.Opened.{opened_table, opened_numbers, opened_passes, opened_workers, opened_boxes};
 
 use crate::copies::Run;
-use crate::lap::Lap;
 use crate::plan::Making;
 use crate::seats::Boxes;
+use bench_laps::Lap;
 use cord_value::Cord;
 use node_pool::{Closed, Naming, Opened, Pool, Worker};
 use std::alloc::{AllocError, Global};

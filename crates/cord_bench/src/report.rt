@@ -1,9 +1,9 @@
 //! What is told of runs.
 use crate::arcs::on_arcs;
 use crate::copies::{Run, on_cords};
-use crate::lap::Lap;
 use crate::making::{of_arcs, of_cords};
 use crate::plan::{Making, Plan, Sharing};
+use bench_laps::{Lap, median, picos};
 use std::alloc::Global;
 use std::sync::Wait;
 use std::thread::Threads;
@@ -86,22 +86,6 @@ pub fn measure_making<R: Clock>(
         cords: median(cords)?,
         arcs: median(arcs)?,
     })
-}
-
-// The time of one of so many operations. An error where not all were done, or the clock couldn't be read.
-fn picos(lap: Lap, rounds: u32) -> io::Result<u64> {
-    match lap.took {
-        Some(took) if lap.complete => {
-            let nanos = u64::try_from(took.as_nanos()).unwrap_or(u64::MAX);
-            Ok(nanos.saturating_mul(1000) / u64::from(rounds.max(1)))
-        }
-        _ => Err(io::Error::from(io::ErrorKind::Other)),
-    }
-}
-
-fn median(mut all: Vec<u64>) -> io::Result<u64> {
-    all.sort()?;
-    Ok(all.get(all.len() / 2).copied().unwrap_or(0))
 }
 
 impl fmt::Display for Plan {

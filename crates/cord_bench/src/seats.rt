@@ -2,8 +2,8 @@
 ghost use Rattle.std.specs.Prelude.{◌≡◌, ◌≤◌, length, vec_len, vec_capacity, All, IfOk};
 ghost use Rattle.pool_rule.specs.Trades.{SameHolds};
 
-use crate::lap::Lap;
 use crate::plan::{BYTES, Sharing};
+use bench_laps::Lap;
 use cord_port::CountReleaser;
 use cord_value::{Cord, CordError};
 use node_pool::{Naming, Pool, Worker};

@@ -6,7 +6,6 @@ ghost use Rattle.std.specs.Prelude.{◌<◌, ◌≤◌};
 
 mod changes;
 mod cords;
-mod lap;
 mod measure;
 mod plan;
 mod report;

@@ -5,9 +5,9 @@ ghost use Rattle.node_pool.specs.Opened.{opened_table, opened_numbers, opened_pa
 
 use crate::changes::{change, change_text};
 use crate::cords::{self, Boxes, Subject, cord_of};
-use crate::lap::Lap;
 use crate::plan::{Change, Question, Shape};
 use crate::texts::{self, block, long_run, repeated};
+use bench_laps::{Lap, median, picos};
 use cord_value::{Cord, CordError};
 use node_pool::{Naming, Opened, Pool, Worker};
 use std::alloc::{AllocError, Global};
@@ -69,22 +69,6 @@ fn lap_of_text<R: Clock>(
     }
     let end = Instant::now(rt);
     Ok((Lap::between(begin, end, true), answer))
-}
-
-// The time of one of so many operations.
-fn picos(lap: Lap, rounds: u32) -> io::Result<u64> {
-    match lap.took {
-        Some(took) => {
-            let nanos = u64::try_from(took.as_nanos()).unwrap_or(u64::MAX);
-            Ok(nanos.saturating_mul(1000) / u64::from(rounds.max(1)))
-        }
-        None => Err(io::Error::from(io::ErrorKind::Other)),
-    }
-}
-
-fn median(mut all: Vec<u64>) -> io::Result<u64> {
-    all.sort()?;
-    Ok(all.get(all.len() / 2).copied().unwrap_or(0))
 }
 
 // Asks the cord and the bytes in turns.
