@@ -7,7 +7,7 @@ ESCAPES = {b'"': b'"', b"\\": b"\\", b"n": b"\n"}
 ESCAPE = re.compile(rb"\\(x[0-9a-f]{2}|.)")
 WITH_TEXT = {b"let", b"ext", b"append", b"prepend", b"find", b"starts", b"ends"}
 ON_CELLS = {b"put", b"take", b"peek", b"swap"}
-OPTIONS = {b"pool", b"passes"}
+OPTIONS = {b"pool", b"passes", b"stride"}
 MOST_BYTES = 2147483647
 MOST_SHOWN = 4096
 # how many boxes of releasers a session owns; each `ext` that is done uses one
@@ -177,6 +177,11 @@ def pool_of(script):
 def passes_of(script):
     """How many passes may be live, one for each tree in a name or a cell."""
     return option_of(script, b"passes", 16384)
+
+
+def stride_of(script):
+    """Of how many new trees one is sampled; 0: none is."""
+    return option_of(script, b"stride", 0)
 
 
 def output(names, replies, history, pool=65536):
